@@ -1,0 +1,138 @@
+-- Rows of numbers of one size: what parts, joins and xors of them are; and the list as what stands at its places.
+use mathlib.Core.Path.{_≡_, refl, sym, ap, ap₂, subst, _∙_}
+use mathlib.Core.Bool.{Bool, true, false, _&&_}
+use mathlib.Core.List.{List, [], _∷_, _++_}
+use Prim.Native.Nat.{ℕ, zero, suc, _+_, _-_, _^_, _<_, _≤_}
+use native.Mathlib.Omega.{arith}
+use borrow.Author.Tests.{ltb-true}
+use lib.Dec.{ltb}
+use lib.ListN.{length, getD, set, take, drop, replicate, length-append, length-take, length-drop}
+use lib.Seq.{getD-drop, drop-cons, sets}
+use Rattle.words.specs.Xor.{_⊕_, xors}
+use Rattle.words.specs.Bytes.{Row}
+use Rattle.words.proofs.XorLaws.{⊕-lt, ⊕-twice, ⊕-comm, ⊕-zero-l, ⊕-zero-r, xor}
+
+-- every element is below m, wherever one looks (past the end stands 0)
+abbrev pub Below : ℕ → List ℕ → Type 0
+Below m s = (i : ℕ) → getD s i 0 < m
+
+-- ---- parts and joins
+
+pub below-take : (m n : ℕ) (s : List ℕ) → 0 < m → Below m s → Below m (take n s)
+below-take m zero s z h i = z
+below-take m (suc n) [] z h i = z
+below-take m (suc n) (b ∷ s) z h zero = h 0
+below-take m (suc n) (b ∷ s) z h (suc i) = below-take m n s z (λ j. h (suc j)) i
+
+pub below-drop : (m n : ℕ) (s : List ℕ) → Below m s → Below m (drop n s)
+below-drop m n s h i = rw (getD-drop n s i 0) (h (n + i))
+
+pub below-append : (m : ℕ) (s t : List ℕ) → Below m s → Below m t → Below m (s ++ t)
+below-append m [] t p q i = q i
+below-append m (b ∷ s) t p q zero = p 0
+below-append m (b ∷ s) t p q (suc i) = below-append m s t (λ j. p (suc j)) q i
+
+module _ (m n : ℕ) {s : List ℕ} (r : Row n m s) where
+  pub row-take : (k : ℕ) → 0 < m → k ≤ n → Row k m (take k s)
+  row-take k z h = record { long = simp length-take (omega (arith, r .long)); below = below-take m k s z (r .below) }
+
+  pub row-drop : (k : ℕ) → Row (n - k) m (drop k s)
+  row-drop k = record { long = simp length-drop (ap (λ (l : ℕ). l - k) (r .long)); below = below-drop m k s (r .below) }
+
+pub row-append : (m j k : ℕ) {s t : List ℕ} → Row j m s → Row k m t → Row (j + k) m (s ++ t)
+row-append m j k {s} {t} p q =
+    record { long = length-append s t ∙ ap₂ _+_ (p .long) (q .long); below = below-append m s t (p .below) (q .below) }
+
+-- ---- xor
+
+pub xors-length : (s t : List ℕ) → length s ≡ length t → length (xors s t) ≡ length s
+unfolding xors
+xors-length [] t e = refl
+xors-length (a ∷ s) [] e = absurd (omega arith)
+xors-length (a ∷ s) (b ∷ t) e = ap suc (xors-length s t (omega arith))
+
+xors-below : (k : ℕ) (s t : List ℕ) → Below (2 ^ k) s → Below (2 ^ k) t → Below (2 ^ k) (xors s t)
+unfolding xors
+xors-below k [] t p q i = p i
+xors-below k (a ∷ s) [] p q i = q i
+xors-below k (a ∷ s) (b ∷ t) p q zero = ⊕-lt k a b (p 0) (q 0)
+xors-below k (a ∷ s) (b ∷ t) p q (suc i) = xors-below k s t (λ j. p (suc j)) (λ j. q (suc j)) i
+
+pub xors-row : (k n : ℕ) {s t : List ℕ} → Row n (2 ^ k) s → Row n (2 ^ k) t → Row n (2 ^ k) (xors s t)
+xors-row k n {s} {t} p q =
+    record { long = xors-length s t (p .long ∙ sym (q .long)) ∙ p .long; below = xors-below k s t (p .below) (q .below) }
+
+-- a second xor undoes the first
+pub xors-twice : (s t : List ℕ) → length s ≡ length t → xors (xors s t) t ≡ s
+unfolding xors
+xors-twice [] t e = refl
+xors-twice (a ∷ s) [] e = absurd (omega arith)
+xors-twice (a ∷ s) (b ∷ t) e = ap₂ (λ (x : ℕ) (l : List ℕ). x ∷ l) (sym (⊕-twice a b)) (xors-twice s t (omega arith))
+
+pub xors-comm : (s t : List ℕ) → xors s t ≡ xors t s
+unfolding xors
+xors-comm [] [] = refl
+xors-comm [] (b ∷ t) = refl
+xors-comm (a ∷ s) [] = refl
+xors-comm (a ∷ s) (b ∷ t) = ap₂ (λ (x : ℕ) (l : List ℕ). x ∷ l) (⊕-comm a b) (xors-comm s t)
+
+pub xors-append : (s t u v : List ℕ) → length s ≡ length t → xors (s ++ u) (t ++ v) ≡ xors s t ++ xors u v
+unfolding xors
+xors-append [] [] u v e = refl
+xors-append [] (b ∷ t) u v e = absurd (omega arith)
+xors-append (a ∷ s) [] u v e = absurd (omega arith)
+xors-append (a ∷ s) (b ∷ t) u v e = ap (λ (l : List ℕ). (a ⊕ b) ∷ l) (xors-append s t u v (omega arith))
+
+pub xors-zeros : (n : ℕ) (s : List ℕ) → length s ≡ n → xors s (replicate n 0) ≡ s
+unfolding xors
+xors-zeros zero [] e = refl
+xors-zeros zero (b ∷ s) e = absurd (omega arith)
+xors-zeros (suc n) [] e = refl
+xors-zeros (suc n) (b ∷ s) e = ap₂ (λ (x : ℕ) (l : List ℕ). x ∷ l) (⊕-zero-r b) (xors-zeros n s (omega arith))
+
+-- ---- a list is what stands at its places, so that one of known length can be written out
+
+abbrev pub tab : ℕ → ℕ → List ℕ → List ℕ
+tab zero i s = []
+tab (suc n) i s = getD s i 0 ∷ tab n (suc i) s
+
+tab-tail : (n i x : ℕ) (s : List ℕ) → tab n (suc i) (x ∷ s) ≡ tab n i s
+tab-tail zero i x s = refl
+tab-tail (suc n) i x s = ap (λ (t : List ℕ). getD s i 0 ∷ t) (tab-tail n (suc i) x s)
+
+tab-length : (s : List ℕ) → tab (length s) 0 s ≡ s
+tab-length [] = refl
+tab-length (x ∷ s) = ap (λ (t : List ℕ). x ∷ t) (tab-tail (length s) 0 x s ∙ tab-length s)
+
+pub tab-all : (n : ℕ) (s : List ℕ) → length s ≡ n → tab n 0 s ≡ s
+tab-all n s e = ap (λ (m : ℕ). tab m 0 s) (sym e) ∙ tab-length s
+
+-- ---- a bound by one test that antt computes
+
+abbrev pub allBelow : ℕ → List ℕ → Bool
+allBelow m [] = true
+allBelow m (b ∷ s) = ltb b m && allBelow m s
+
+and-left : (a b : Bool) → (a && b) ≡ true → a ≡ true
+and-left true b e = refl
+and-left false b e = e
+
+and-right : (a b : Bool) → (a && b) ≡ true → b ≡ true
+and-right true b e = e
+and-right false b e = cc
+
+pub below-test : (m : ℕ) (s : List ℕ) → 0 < m → allBelow m s ≡ true → Below m s
+below-test m [] z e i = z
+below-test m (b ∷ s) z e zero = ltb-true b m (and-left (ltb b m) (allBelow m s) e)
+below-test m (b ∷ s) z e (suc i) = below-test m s z (and-right (ltb b m) (allBelow m s) e) i
+
+-- ---- a window of a list, and a run of stores
+
+pub window : (k at : ℕ) (s : List ℕ) → at + k ≤ length s → take k (drop at s) ≡ tab k at s
+window zero at s h = refl
+window (suc k) at s h =
+    ap (take (suc k)) (drop-cons s at 0 (omega arith)) ∙ ap (λ (t : List ℕ). getD s at 0 ∷ t) (window k (suc at) s (omega arith))
+
+pub sets-append : (l : List ℕ) (i : ℕ) (a b : List ℕ) → sets l i (a ++ b) ≡ sets (sets l i a) (i + length a) b
+sets-append l i [] b = ap (λ (k : ℕ). sets l k b) (omega arith)
+sets-append l i (x ∷ a) b = sets-append (set l i x) (suc i) a b ∙ ap (λ (k : ℕ). sets (sets (set l i x) (suc i) a) k b) (omega arith)

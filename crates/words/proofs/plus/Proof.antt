@@ -1,0 +1,25 @@
+-- `words::plus` meets its contract: each word is the definition's.
+use native.Mathlib.Omega.{arith}
+use Rattle.words.specs.Sums.{sums}
+use Rattle.words.proofs.Blocks.{four, is-sum}
+use borrow.Author.Needs.{needs}
+use Rattle.words.proofs.plus.Statement.{statement}
+use Rattle.words.proofs.plus.Tie as tie
+
+returns : tie.Need-returns
+unfolding sums
+returns c =
+    let s = c .before .before .before .before .args in
+    is-sum (s .x) (s .y) _ (record { in-0 = search needs; in-1 = search needs; in-2 = search needs; in-3 = search needs })
+    (record { in-0 = search needs; in-1 = search needs; in-2 = search needs; in-3 = search needs })
+    (four (omega arith) (omega arith) (omega arith) (omega arith))
+
+pub plus-spec : {M : Type 1} → statement M
+plus-spec =
+    tie.close
+    (tie.spec
+    (λ c κs. search needs)
+    (λ c κs. search needs)
+    (λ c κs. search needs)
+    (λ c κs. search needs)
+    returns)

@@ -1,0 +1,4 @@
+pub mod Xor
+pub mod Bytes
+pub mod Sums
+pub mod Machine
