@@ -4,14 +4,14 @@ use mathlib.Core.Path.{_≡_, refl, sym, ap, ap₂, subst, _∙_}
 use mathlib.Core.List.{List, [], _∷_, _++_, append-assoc}
 use Prim.Native.Nat.{ℕ, zero, suc, _+_, _-_, _*_, _/_, _%_, _^_, _<_, _≤_}
 use native.Mathlib.Omega.{arith}
-use native.Mathlib.Nat.{mod-lt}
+use native.Mathlib.Nat.{mod-lt, mul-assoc, pow-succ'}
 use lib.Dec.{lit<}
 use lib.ListN.{length, getD, take, drop, length-append, length-take, length-drop, take-append-drop}
 use lib.Seq.{take-at, drop-at}
 use Rattle.words.specs.Xor.{_⊕_, xors}
 use Rattle.words.specs.Bytes.{little, number, littles, numbers, Row}
 use Rattle.words.proofs.XorLaws.{⊕-mod, ⊕-shr}
-use Rattle.words.proofs.Rows.{Below, row-take, row-drop, below-append, xors-append, tab-all}
+use Rattle.words.proofs.Rows.{Below, row-take, row-drop, row-append, below-append, xors-append, tab-all}
 
 -- ---- one number
 
@@ -126,3 +126,23 @@ numbers-littles k (suc n) (x ∷ xs) r =
     (ap number (take-at (little k x) (littles k xs) k (little-long k x)) ∙ number-little k x (r .below 0))
     (ap (numbers k n) (drop-at (little k x) (littles k xs) k (little-long k x))
     ∙ numbers-littles k n xs (record { long = omega (arith, r .long); below = λ i. r .below (suc i) }))
+
+-- ---- one number of two
+
+pub number-append : (s t : List ℕ) → number (s ++ t) ≡ number s + 256 ^ length s * number t
+unfolding number
+number-append [] t = omega arith
+number-append (b ∷ s) t =
+    let ih : number (s ++ t) ≡ number s + 256 ^ length s * number t = number-append s t in
+    let e : 256 ^ suc (length s) * number t ≡ 256 * (256 ^ length s * number t) =
+    ap (λ (p : ℕ). p * number t) (pow-succ' 256 (length s)) ∙ mul-assoc 256 (256 ^ length s) (number t) in
+    omega arith
+
+-- the bytes of a number of twice as many bytes, from its two halves
+pub little-join : (k x y : ℕ) → x < 256 ^ k → y < 256 ^ k → little (k + k) (x + 256 ^ k * y) ≡ little k x ++ little k y
+little-join k x y hx hy =
+    let n : number (little k x ++ little k y) ≡ x + 256 ^ k * y =
+    number-append (little k x) (little k y)
+    ∙ ap₂ (λ (u v : ℕ). u + 256 ^ length (little k x) * v) (number-little k x hx) (number-little k y hy)
+    ∙ ap (λ (l : ℕ). x + 256 ^ l * y) (little-long k x) in
+    ap (little (k + k)) (sym n) ∙ little-number (k + k) (little k x ++ little k y) (row-append 256 k k (little-row k x) (little-row k y))

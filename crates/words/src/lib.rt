@@ -97,3 +97,31 @@ pub fn store(out: &mut [u8], at: usize, x: Block)
     store_word(out, at + 8, x.w2);
     store_word(out, at + 12, x.w3);
 }
+
+// A block's bytes.
+pub fn to_bytes(x: Block) -> [u8; 16]
+    ensures { λ r. ⌜ r ≡ bytesOf x ⌝ }
+{
+    let a = x.w0;
+    let b = x.w1;
+    let c = x.w2;
+    let d = x.w3;
+    [
+        (a % 256) as u8,
+        (a / 256 % 256) as u8,
+        (a / 256 / 256 % 256) as u8,
+        (a / 256 / 256 / 256 % 256) as u8,
+        (b % 256) as u8,
+        (b / 256 % 256) as u8,
+        (b / 256 / 256 % 256) as u8,
+        (b / 256 / 256 / 256 % 256) as u8,
+        (c % 256) as u8,
+        (c / 256 % 256) as u8,
+        (c / 256 / 256 % 256) as u8,
+        (c / 256 / 256 / 256 % 256) as u8,
+        (d % 256) as u8,
+        (d / 256 % 256) as u8,
+        (d / 256 / 256 % 256) as u8,
+        (d / 256 / 256 / 256 % 256) as u8,
+    ]
+}

@@ -1,0 +1,9 @@
+pub mod Tests
+pub mod Lists
+pub mod Products
+pub mod Boxes
+pub mod Mixing
+pub mod Rounds
+pub mod Columns
+pub mod Blocks
+pub mod Examples

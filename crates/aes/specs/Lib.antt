@@ -1,0 +1,4 @@
+pub mod Field
+pub mod Round
+pub mod Tables
+pub mod Columns

@@ -1,0 +1,7 @@
+pub mod Inverse
+pub mod Moves
+pub mod Halves
+pub mod Typed
+pub mod Running
+pub mod LentAgain
+pub mod FrontPart

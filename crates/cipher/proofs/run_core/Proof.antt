@@ -1,0 +1,114 @@
+-- `cipher::run_core` meets its contract: after i turns i steps are made, and their blocks stand at the front of the output.
+use Prim.Native.Nat.{ℕ, _≤_, _<_, _*_, _-_}
+use mathlib.Core.Path.{_≡_, subst}
+use native.Mathlib.Omega.{arith}
+use borrow.Author.Needs.{needs}
+use lib.ListN.{length, getD}
+use denote.Ref.{now}
+use mir.Syntax.{w16}
+use mir.Val.{Fits}
+use Rattle.cipher.specs.Registers.{Good}
+use Rattle.cipher.specs.Machine.{registersOf}
+use Rattle.cipher.proofs.Typed.{good-of}
+use Rattle.cipher.proofs.Running.{Made, made-none, made-long, made-more, too-many, no-room, accepted}
+use Rattle.cipher.proofs.run_core.Statement.{statement}
+use Rattle.cipher.proofs.run_core.Tie as tie
+
+abbrev Inv-loop : tie.InvT-loop
+Inv-loop answer out₀ n back sbox inverse t₀ i₀ out t i = Made back (registersOf t₀) out₀ n i (registersOf t) out
+
+abbrev μ-loop : tie.MeasureT-loop
+μ-loop answer out₀ n back sbox inverse t₀ i₀ out t i = n - i
+
+good : (c : tie.Start Inv-loop μ-loop) → Good (registersOf (c .args .s))
+good c =
+    let fa : (i : ℕ) → Fits w16 (getD (c .args .s .lfsr .a) i 0) = λ i. search needs in
+    let fb : (i : ℕ) → Fits w16 (getD (c .args .s .lfsr .b) i 0) = λ i. search needs in
+    good-of (c .args .s) (record {
+      in-a = record { long = search needs; below = λ i. fa i .fits };
+      in-b = record { long = search needs; below = λ i. fb i .fits };
+    })
+
+returns : tie.Need-returns Inv-loop μ-loop
+returns c = let a = c .before .before .args in too-many (a .back) (registersOf (a .s)) (now (a .out)) (a .n) (omega arith)
+
+mul-if2 : tie.Need-mul-if2 Inv-loop μ-loop
+mul-if2 c = omega arith
+
+returns-2 : tie.Need-returns-2 Inv-loop μ-loop
+returns-2 c = let a = c .before .before .before .args in no-room (a .back) (registersOf (a .s)) (now (a .out)) (a .n) (omega arith) (omega arith)
+
+sbox-requires : tie.Need-sbox-requires Inv-loop μ-loop
+sbox-requires c κs = search needs
+
+inverse-sbox-requires : tie.Need-inverse-sbox-requires Inv-loop μ-loop
+inverse-sbox-requires c κs = search needs
+
+loop-holds : tie.Need-loop-holds Inv-loop μ-loop
+loop-holds c = let s = c .before .before .before .before .before in made-none (s .args .back) (registersOf (s .args .s)) (good s) (now (s .args .out)) (s .args .n) (omega arith)
+
+one-step-requires : tie.Need-one-step-requires Inv-loop μ-loop
+one-step-requires c κs = let t = c .before .before .before .before in (t .before .sbox .ensures, t .inverse-sbox .ensures)
+
+mul-store : tie.Need-mul-store Inv-loop μ-loop
+mul-store c = omega (arith, c .before .before .before .before .before .before .before .loop .inv .at-most)
+
+store-requires : tie.Need-store-requires Inv-loop μ-loop
+store-requires c κs =
+    let l = c .before .before .before .before .before .before .before in
+    let s = c .before .before .before .before .before .before .before .before .before .before .before .before .before in
+    let h : length (l .loop .out) ≡ length (now (s .args .out)) =
+    made-long (s .args .back) (registersOf (s .args .s)) (good s) (now (s .args .out)) (s .args .n) (search needs) _ _ _ (l .loop .inv) in
+    omega arith
+
+add-i : tie.Need-add-i Inv-loop μ-loop
+add-i c = omega arith
+
+loop-less : tie.Need-loop-less Inv-loop μ-loop
+loop-less c = omega arith
+
+loop-again : tie.Need-loop-again Inv-loop μ-loop
+loop-again c =
+    let w = c .before .before .before .before .before .before in
+    let l = c .before .before .before .before .before .before .before .before .before .before in
+    let s = c .before .before .before .before .before .before .before .before .before .before .before .before .before .before .before .before in
+    made-more (s .args .back) (registersOf (s .args .s)) (good s) (now (s .args .out)) (s .args .n) (search needs)
+    (l .loop .i) (registersOf (l .loop .t)) (l .loop .out) (omega arith) (l .loop .inv) _ _ _ (w .one-step .ensures .state) (w .one-step .ensures .z) (c .before .before .store .ensures)
+
+mul-t15 : tie.Need-mul-t15 Inv-loop μ-loop
+mul-t15 c = omega arith
+
+same-length : tie.Need-same-length Inv-loop μ-loop
+same-length c =
+    let s = c .before .before .before .before .before .before .before in
+    made-long (s .args .back) (registersOf (s .args .s)) (good s) (now (s .args .out)) (s .args .n) (search needs) _ _ _ (c .before .loop .inv)
+
+returns-3 : tie.Need-returns-3 Inv-loop μ-loop
+returns-3 c =
+    let l = c .before in
+    let s = c .before .before .before .before .before .before .before in
+    let e : l .loop .i ≡ s .args .n = omega (arith, l .loop .inv .at-most) in
+    accepted (s .args .back) (registersOf (s .args .s)) (now (s .args .out)) (s .args .n) (good s) (omega arith) (omega arith) (registersOf (l .loop .t)) (l .loop .out)
+    (subst (λ (k : ℕ). Made (s .args .back) (registersOf (s .args .s)) (now (s .args .out)) (s .args .n) k (registersOf (l .loop .t)) (l .loop .out)) e (l .loop .inv))
+
+pub run-core-spec : {M : Type 1} → statement M
+run-core-spec =
+    tie.close
+    (tie.spec
+    Inv-loop
+    μ-loop
+    returns
+    mul-if2
+    returns-2
+    sbox-requires
+    inverse-sbox-requires
+    loop-holds
+    one-step-requires
+    mul-store
+    store-requires
+    add-i
+    loop-less
+    loop-again
+    mul-t15
+    same-length
+    returns-3)

@@ -1,0 +1,6 @@
+pub mod Registers
+pub mod Step
+pub mod Back
+pub mod Run
+pub mod Machine
+pub mod Lent

@@ -1,0 +1,246 @@
+// SNOW-V: one step, forward and back, by value and lent, and runs of steps.
+ghost use mathlib.Core.Path.{_≡_};
+ghost use mathlib.Core.List.{[], _∷_, _++_};
+ghost use Prim.Native.Nat.{_/_, _%_};
+ghost use lib.ListN.{length, take, drop};
+ghost use denote.Ref.{ptr};
+ghost use Rattle.words.specs.Bytes.{little, littles, numbers};
+ghost use Rattle.words.specs.Machine.{bytesOf};
+ghost use Rattle.aes.specs.Field.{sub, unsub};
+ghost use Rattle.aes.specs.Tables.{Holds};
+ghost use Rattle.cipher.specs.Step;
+ghost use Rattle.cipher.specs.Run.{forward, backward, move, made, run-number, run-registers, run-part};
+ghost use Rattle.cipher.specs.Machine.{registersOf, Moves, Steps};
+ghost use Rattle.cipher.specs.Lent.{rest-stays};
+use lfsr::Lfsr;
+use words::Block;
+
+// The contents of A and B, R1, R2 and R3: document 01's cipher state.
+pub struct State {
+    pub lfsr: Lfsr,
+    pub r1: Block,
+    pub r2: Block,
+    pub r3: Block,
+}
+
+// What a step gives: the state it leads to, and its block z.
+pub struct Moved {
+    pub state: State,
+    pub z: Block,
+}
+
+pub struct Stepped {
+    pub state: State,
+    pub z: [u8; 16],
+}
+
+fn pair(lo: u16, hi: u16) -> u32
+    ensures { λ r. ⌜ little 4 r ≡ little 2 lo ++ little 2 hi ⌝ }
+{
+    lo as u32 + hi as u32 * 0x10000
+}
+
+// Cells 0 to 7 of a register as a block.
+pub fn low_half(l: [u16; 16]) -> Block
+    ensures { λ r. ⌜ bytesOf r ≡ littles 2 (take 8 l) ⌝ }
+{
+    Block {
+        w0: pair(l[0], l[1]),
+        w1: pair(l[2], l[3]),
+        w2: pair(l[4], l[5]),
+        w3: pair(l[6], l[7]),
+    }
+}
+
+// Cells 8 to 15.
+pub fn high_half(l: [u16; 16]) -> Block
+    ensures { λ r. ⌜ bytesOf r ≡ littles 2 (drop 8 l) ⌝ }
+{
+    Block {
+        w0: pair(l[8], l[9]),
+        w1: pair(l[10], l[11]),
+        w2: pair(l[12], l[13]),
+        w3: pair(l[14], l[15]),
+    }
+}
+
+// Bytes 0 and 2 of p and of q in turn.
+fn interleaved(p: u32, q: u32) -> u32
+    ensures { λ r. ⌜ little 4 r ≡ p % 256 ∷ q % 256 ∷ p / 65536 % 256 ∷ q / 65536 % 256 ∷ [] ⌝ }
+{
+    (p & 0x00ff00ff) + (q & 0x00ff00ff) * 0x100
+}
+
+// The paper's sigma: the four by four matrix of bytes is transposed, first its quarters and then the bytes of each.
+fn sigma(x: Block) -> Block
+    ensures { λ r. ⌜ bytesOf r ≡ Step.sigma (bytesOf x) ⌝ }
+{
+    let p = x.w0 % 0x10000 + x.w2 % 0x10000 * 0x10000;
+    let q = x.w1 % 0x10000 + x.w3 % 0x10000 * 0x10000;
+    let r = x.w0 / 0x10000 + x.w2 / 0x10000 * 0x10000;
+    let s = x.w1 / 0x10000 + x.w3 / 0x10000 * 0x10000;
+    Block {
+        w0: interleaved(p, q),
+        w1: interleaved(p / 0x100, q / 0x100),
+        w2: interleaved(r, s),
+        w3: interleaved(r / 0x100, s / 0x100),
+    }
+}
+
+// One step, over a lent S-box.
+pub fn forward(s: State, sbox: &[u8; 256]) -> Moved
+    requires { ⌜ Holds sub (now sbox) ⌝ }
+    ensures { λ r. ⌜ Moves forward s r ⌝ }
+{
+    let l = s.lfsr;
+    let r1 = s.r1;
+    let r2 = s.r2;
+    let r3 = s.r3;
+    let a = l.a;
+    let b = l.b;
+    let z = words::xor(words::plus(r1, high_half(b)), r2);
+    let n1 = sigma(words::plus(r2, words::xor(r3, low_half(a))));
+    let n2 = aes::round(r1, sbox);
+    let n3 = aes::round(r2, sbox);
+    let n = lfsr::clock8(l);
+    let state = State {
+        lfsr: n,
+        r1: n1,
+        r2: n2,
+        r3: n3,
+    };
+    Moved { state: state, z: z }
+}
+
+// One step back, over a lent inverse S-box, with the z of the step that is undone. The clocks go first: R3 had the old a0 to a7 xored in.
+pub fn backward(s: State, inverse: &[u8; 256]) -> Moved
+    requires { ⌜ Holds unsub (now inverse) ⌝ }
+    ensures { λ r. ⌜ Moves backward s r ⌝ }
+{
+    let l = s.lfsr;
+    let r1 = s.r1;
+    let r2 = s.r2;
+    let r3 = s.r3;
+    let b = l.b;
+    let o1 = aes::unround(r2, inverse);
+    let o2 = aes::unround(r3, inverse);
+    let z = words::xor(words::plus(o1, low_half(b)), o2);
+    let o = lfsr::unclock8(l);
+    let a = o.a;
+    let o3 = words::xor(words::minus(sigma(r1), o2), low_half(a));
+    let state = State {
+        lfsr: o,
+        r1: o1,
+        r2: o2,
+        r3: o3,
+    };
+    Moved { state: state, z: z }
+}
+
+// One step either way, over both lent tables.
+fn one_step(s: State, back: bool, sbox: &[u8; 256], inverse: &[u8; 256]) -> Moved
+    requires { ⌜ Holds sub (now sbox) × Holds unsub (now inverse) ⌝ }
+    ensures { λ r. ⌜ Moves back s r ⌝ }
+{
+    if back {
+        return backward(s, inverse);
+    }
+    forward(s, sbox)
+}
+
+// One step: the state it leads to, and its z.
+pub fn step_by_value(s: State) -> Stepped
+    ensures { λ r. ⌜ Steps forward s r ⌝ }
+{
+    let sbox = aes::sbox();
+    let w = forward(s, &sbox);
+    let n = w.state;
+    let z = w.z;
+    Stepped {
+        state: n,
+        z: words::to_bytes(z),
+    }
+}
+
+// One step back: the only state whose step leads to this one, and that step's z.
+pub fn back_by_value(s: State) -> Stepped
+    ensures { λ r. ⌜ Steps backward s r ⌝ }
+{
+    let inverse = aes::inverse_sbox();
+    let w = backward(s, &inverse);
+    let n = w.state;
+    let z = w.z;
+    Stepped {
+        state: n,
+        z: words::to_bytes(z),
+    }
+}
+
+// The state is lent, moved on one step, and z comes back.
+pub fn step(s: &mut State) -> [u8; 16]
+    ensures { λ r. ⌜ (registersOf (now (s .exit)) ≡ move forward (registersOf (now (s .entry)))) × (r ≡ made forward (registersOf (now (s .entry)))) ⌝ }
+{
+    let t = step_by_value(*s);
+    *s = t.state;
+    t.z
+}
+
+// The state after a run, and how many bytes of the output it wrote.
+pub struct Ran {
+    pub state: State,
+    pub wrote: usize,
+}
+
+// n steps, forward or back: their blocks in the order made, at the front of the output. Refused: 9 for an n over 65,538, 4 where the blocks do
+// not fit the output. The answer becomes 0, or the refusal's number, and is all that a refusal changes.
+pub fn run_core(s: State, answer: &mut u64, out: &mut [u8], n: usize, back: bool) -> Ran
+    ensures state { λ r. ⌜ registersOf (r .state) ≡ run-registers back (registersOf s) (length (now (out .entry))) n ⌝ }
+    ensures wrote { λ r. ⌜ r .wrote ≡ length (run-part back (registersOf s) (length (now (out .entry))) n) ⌝ }
+    ensures answer { λ _. ⌜ now (answer .exit) ≡ run-number (length (now (out .entry))) n ⌝ }
+    ensures out { λ r. ⌜ now (out .exit) ≡ run-part back (registersOf s) (length (now (out .entry))) n ++ drop (r .wrote) (now (out .entry)) ⌝ }
+{
+    if n as u64 > scope::MOST_BLOCKS {
+        *answer = scope::COUNT_TOO_HIGH;
+        return Ran { state: s, wrote: 0 };
+    }
+    if out.len() < 16 * n {
+        *answer = scope::SHORT_OUTPUT;
+        return Ran { state: s, wrote: 0 };
+    }
+    let sbox = aes::sbox();
+    let inverse = aes::inverse_sbox();
+    let mut t = s;
+    let mut i = 0;
+    while i < n {
+        let w = one_step(t, back, &sbox, &inverse);
+        let u = w.state;
+        let z = w.z;
+        t = u;
+        words::store(out, 16 * i, z);
+        i += 1;
+    }
+    *answer = scope::ACCEPTED;
+    Ran {
+        state: t,
+        wrote: 16 * n,
+    }
+}
+
+// The same with the state lent; the part of the output that holds the blocks comes back, empty on a refusal.
+pub fn run<'a>(
+    s: &mut State,
+    answer: &mut u64,
+    out: &'a mut [u8],
+    n: usize,
+    back: bool,
+) -> &'a mut [u8]
+    ensures state { λ _. ⌜ registersOf (now (s .exit)) ≡ run-registers back (registersOf (now (s .entry))) (length (now (out .entry))) n ⌝ }
+    ensures answer { λ _. ⌜ now (answer .exit) ≡ run-number (length (now (out .entry))) n ⌝ }
+    ensures part { λ r. ⌜ (ptr r ≡ ptr (out .entry)) × (now r ≡ run-part back (registersOf (now (s .entry))) (length (now (out .entry))) n) ⌝ }
+    ensures rest { λ r. rest-stays 𝓤 A (out .entry) (length (now r)) (drop (length (now r)) (now (out .entry))) }
+{
+    let t = run_core(*s, answer, out, n, back);
+    *s = t.state;
+    let k = t.wrote;
+    &mut out[..k]
+}

@@ -1,0 +1,66 @@
+-- Document 01, "What reception says when it turns you away": the number of each refusal, and how a call's order of refusals is written.
+-- A call's number is 0 where it is accepted.
+use Prim.Native.Nat.{ℕ}
+use mathlib.Core.Bool.{Bool, true, false}
+use lib.Dec.{eqb}
+
+-- the first where the test holds, else the second
+abbrev pub pick {ℓ} : {A : Type ℓ} → Bool → A → A → A
+pick true a b = a
+pick false a b = b
+
+-- the refusal's number where its condition holds, else what comes later in the call's order
+abbrev pub refuse : Bool → ℕ → ℕ → ℕ
+refuse c n later = pick c n later
+
+-- what an accepted call gives, and what a refused one does
+abbrev pub granted {ℓ} : {A : Type ℓ} → ℕ → A → A → A
+granted n given kept = pick (eqb n 0) given kept
+
+-- 1 wrong key: the key is not 32 bytes
+abbrev pub key-length : ℕ
+key-length = 1
+
+-- 2 wrong stay number: the IV is not 16 bytes
+abbrev pub iv-length : ℕ
+iv-length = 2
+
+-- 3 book full: data or text over its limit, counted over the session
+abbrev pub too-long : ℕ
+too-long = 3
+
+-- 4 short page: the lent output is shorter than what must be written
+abbrev pub short-output : ℕ
+short-output = 4
+
+-- 5 seal broken: the tag differs
+abbrev pub bad-tag : ℕ
+bad-tag = 5
+
+-- 6 not ours: no IV and mode lead to this state
+abbrev pub no-origin : ℕ
+no-origin = 6
+
+-- 7 late entry: the call is out of phase
+abbrev pub out-of-phase : ℕ
+out-of-phase = 7
+
+-- 8 torn block: a suspended session's block breaks a layout rule
+abbrev pub bad-block : ℕ
+bad-block = 8
+
+-- 9 too far: the block count is over its limit
+abbrev pub count-too-high : ℕ
+count-too-high = 9
+
+-- 10 cut seal: the tag is not 16 bytes
+abbrev pub tag-length : ℕ
+tag-length = 10
+
+-- 11 unreadable: the program's input is malformed
+abbrev pub malformed : ℕ
+malformed = 11
+
+-- 12 no such day: a day outside 0 to 73,048
+abbrev pub day-range : ℕ
+day-range = 12

@@ -1,0 +1,36 @@
+// The numbers that document 01 fixes, named once for all crates: its refusals and its limits. The definitions have the same names in
+// specs/.
+
+// Refusals. 0 is the number of an accepted call.
+pub const ACCEPTED: u64 = 0;
+
+pub const KEY_LENGTH: u64 = 1;
+
+pub const IV_LENGTH: u64 = 2;
+
+pub const TOO_LONG: u64 = 3;
+
+pub const SHORT_OUTPUT: u64 = 4;
+
+pub const BAD_TAG: u64 = 5;
+
+pub const NO_ORIGIN: u64 = 6;
+
+pub const OUT_OF_PHASE: u64 = 7;
+
+pub const BAD_BLOCK: u64 = 8;
+
+pub const COUNT_TOO_HIGH: u64 = 9;
+
+pub const TAG_LENGTH: u64 = 10;
+
+pub const MALFORMED: u64 = 11;
+
+pub const DAY_RANGE: u64 = 12;
+
+// Limits: bytes of data and of text in a session, and blocks drawn.
+pub const MOST_DATA: u64 = 65535;
+
+pub const MOST_TEXT: u64 = 1048576;
+
+pub const MOST_BLOCKS: u64 = 65538;

@@ -1,0 +1,47 @@
+-- The answers of start and trace by their lengths and counts, and the key put together from its halves.
+use mathlib.Core.Path.{_≡_, refl, sym, ap, ap₂, _∙_}
+use mathlib.Core.List.{List, _++_}
+use Prim.Native.Nat.{ℕ, _≤_, _<_}
+use native.Mathlib.Omega.{arith}
+use borrow.Author.Tests.{eq-eqb, ne-eqb, lt-ltb, le-ltb}
+use lib.ListN.{length, take, drop, length-drop, take-append-drop}
+use lib.Seq.{take-all}
+use Rattle.scope.specs.Limits.{most-blocks}
+use Rattle.cipher.specs.Registers.{Registers}
+use Rattle.cipher.specs.Run.{backward, moves}
+use Rattle.start.specs.Start.{start-number}
+use Rattle.start.specs.Trace.{Answer, Answer.refused, loaded, unload, trace}
+
+module _ (key iv : List ℕ) where
+  pub bad-key : ¬ (length key ≡ 32) → start-number key iv ≡ 1
+  unfolding start-number
+  bad-key h = rw (ne-eqb (length key) 32 h)
+
+  pub bad-iv : length key ≡ 32 → ¬ (length iv ≡ 16) → start-number key iv ≡ 2
+  unfolding start-number
+  bad-iv h k = rw (eq-eqb (length key) 32 h, ne-eqb (length iv) 16 k)
+
+  pub both-right : length key ≡ 32 → length iv ≡ 16 → start-number key iv ≡ 0
+  unfolding start-number
+  both-right h k = rw (eq-eqb (length key) 32 h, eq-eqb (length iv) 16 k)
+
+pub key-whole : (key l h : List ℕ) → length key ≡ 32 → l ≡ take 16 (drop 0 key) → h ≡ take 16 (drop 16 key) → l ++ h ≡ key
+key-whole key l h e p q =
+    let r : take 16 (drop 16 key) ≡ drop 16 key = take-all 16 (drop 16 key) (simp length-drop (omega arith)) in
+    ap₂ (λ (x y : List ℕ). x ++ y) p (q ∙ r) ∙ take-append-drop 16 key
+
+pub iv-whole : (iv l : List ℕ) → length iv ≡ 16 → l ≡ take 16 (drop 0 iv) → l ≡ iv
+iv-whole iv l e p = p ∙ take-all 16 iv (omega arith)
+
+module _ (s : Registers) (key : List ℕ) (n : ℕ) where
+  pub trace-bad-key : ¬ (length key ≡ 32) → refused 1 ≡ trace s key n
+  unfolding trace
+  trace-bad-key h = rw (ne-eqb (length key) 32 h)
+
+  pub trace-too-far : length key ≡ 32 → most-blocks < n → refused 9 ≡ trace s key n
+  unfolding trace
+  trace-too-far h k = rw (eq-eqb (length key) 32 h, lt-ltb most-blocks n k)
+
+  pub trace-walks : length key ≡ 32 → n ≤ most-blocks → unload key (loaded key (moves backward n s)) ≡ trace s key n
+  unfolding trace
+  trace-walks h k = rw (eq-eqb (length key) 32 h, le-ltb most-blocks n k)

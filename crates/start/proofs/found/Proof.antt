@@ -1,0 +1,17 @@
+-- `start::found` meets its contract.
+use Prim.Native.Nat.{ℕ}
+use mathlib.Core.Path.{ap}
+use mathlib.Core.List.{List}
+use Rattle.start.specs.Trace.{Answer.origin}
+use Rattle.start.proofs.Splitting.{halves-bytes}
+use borrow.Author.Needs.{needs}
+use Rattle.start.proofs.found.Statement.{statement}
+use Rattle.start.proofs.found.Tie as tie
+
+returns : tie.Need-returns
+returns c =
+    let a = c .before .before .args in
+    ap (λ (l : List ℕ). origin l (a .mode)) (halves-bytes (a .iv) _ _ (c .before .word64 .ensures) (c .word642 .ensures))
+
+pub found-spec : {M : Type 1} → statement M
+found-spec = tie.close (tie.spec (λ c κs. search needs) (λ c κs. search needs) returns)

@@ -1,0 +1,4 @@
+pub mod Start
+pub mod Leads
+pub mod Trace
+pub mod Machine

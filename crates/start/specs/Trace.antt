@@ -1,0 +1,61 @@
+-- Trace (document 01, "Start and trace"): walking back from a state to the IV and mode that lead to it, or a refusal. How the walk goes need
+-- not be believed by reading: proofs/Traced.antt shows that it finds an IV and mode exactly when they lead to the state, and 6 exactly when
+-- none do.
+use Prim.Native.Nat.{ℕ, zero, suc}
+use mathlib.Core.Bool.{Bool, true, false, not, _&&_}
+use mathlib.Core.List.{List, [], _∷_}
+use lib.Dec.{eqb, ltb}
+use lib.ListN.{length, take, drop}
+use Rattle.scope.specs.Limits.{most-blocks}
+use Rattle.scope.specs.Refusals.{pick, key-length, count-too-high, no-origin}
+use Rattle.words.specs.Bytes.{littles}
+use Rattle.cipher.specs.Registers.{Registers}
+use Rattle.cipher.specs.Back.{back, z-before}
+use Rattle.cipher.specs.Run.{backward, moves}
+use Rattle.start.specs.declared.Mode.{Mode}
+use Rattle.start.specs.declared.Mode.the-variants.{Plain, Sealed}
+use Rattle.start.specs.Start.{zeros, mode-cells, into-a, into-r1}
+
+-- "its answer is either the stay number with its mode or a refusal"
+pub data Answer : Type 0 where
+  origin : (iv : List ℕ) (m : Mode) → Answer
+  refused : ℕ → Answer
+
+-- one of the 16 steps undone: z is had without a8 to a15, xored out of them, and the step goes back
+unfoldable pub uninitial : Registers → Registers
+uninitial s = back (into-a (z-before s) s)
+
+unfoldable pub uninitials : ℕ → Registers → Registers
+uninitials zero s = s
+uninitials (suc n) s = uninitials n (uninitial s)
+
+-- what a start under this key would have loaded
+unfoldable pub loaded : (key : List ℕ) → Registers → Registers
+loaded key s = uninitials 15 (into-r1 (take 16 key) (uninitial (into-r1 (drop 16 key) s)))
+
+-- whether two lists are the same
+unfoldable pub same : List ℕ → List ℕ → Bool
+same [] [] = true
+same [] (y ∷ t) = false
+same (x ∷ s) [] = false
+same (x ∷ s) (y ∷ t) = eqb x y && same s t
+
+-- whether a start in this mode under this key loads these registers, with some IV
+unfoldable pub loads : (key : List ℕ) → Mode → Registers → Bool
+loads key m s =
+    same (littles 2 (drop 8 (s .lfsr .a))) (take 16 key) && same (littles 2 (take 8 (s .lfsr .b))) (littles 2 (mode-cells m))
+    && same (littles 2 (drop 8 (s .lfsr .b))) (drop 16 key) && same (s .r1) zeros && same (s .r2) zeros && same (s .r3) zeros
+
+-- the IV and mode that load them, or 6
+unfoldable pub unload : (key : List ℕ) → Registers → Answer
+unload key s =
+    pick (loads key Plain s)
+    (origin (littles 2 (take 8 (s .lfsr .a))) Plain)
+    (pick (loads key Sealed s) (origin (littles 2 (take 8 (s .lfsr .a))) Sealed) (refused no-origin))
+
+-- 1, 9, 6
+unfoldable pub trace : Registers → (key : List ℕ) → (count : ℕ) → Answer
+trace s key n =
+    pick (not (eqb (length key) 32))
+    (refused key-length)
+    (pick (ltb most-blocks n) (refused count-too-high) (unload key (loaded key (moves backward n s))))

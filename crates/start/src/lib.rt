@@ -1,0 +1,350 @@
+// Start in plain and in sealed mode, and trace: from a state back to the IV and mode that lead to it.
+ghost use mathlib.Core.Path.{_≡_};
+ghost use mathlib.Core.List.{_++_};
+ghost use Prim.Native.Nat.{_+_, _≤_};
+ghost use lib.ListN.{length, take, drop};
+ghost use Rattle.words.specs.Bytes.{little, littles, numbers};
+ghost use Rattle.words.specs.Machine.{bytesOf};
+ghost use Rattle.aes.specs.Field.{sub, unsub};
+ghost use Rattle.aes.specs.Tables.{Holds};
+ghost use Rattle.cipher.specs.Back;
+ghost use Rattle.cipher.specs.Run.{backward, moves};
+ghost use Rattle.cipher.specs.Machine.{registersOf};
+ghost use Rattle.start.specs.Start;
+ghost use Rattle.start.specs.Start.{blank, mode-cells};
+ghost use Rattle.start.specs.Trace;
+ghost use Rattle.start.specs.Machine.{Initials, Starts, answerOf};
+use cipher::Moved;
+use cipher::State;
+use lfsr::Lfsr;
+use words::Block;
+
+pub enum Mode {
+    Plain,
+    Sealed,
+}
+
+// Eight words of each block, low byte first: the lower half of a register and the upper.
+fn cells(lo: Block, hi: Block) -> [u16; 16]
+    ensures { λ r. ⌜ r ≡ numbers 2 8 (bytesOf lo) ++ numbers 2 8 (bytesOf hi) ⌝ }
+{
+    [
+        (lo.w0 % 0x10000) as u16,
+        (lo.w0 / 0x10000) as u16,
+        (lo.w1 % 0x10000) as u16,
+        (lo.w1 / 0x10000) as u16,
+        (lo.w2 % 0x10000) as u16,
+        (lo.w2 / 0x10000) as u16,
+        (lo.w3 % 0x10000) as u16,
+        (lo.w3 / 0x10000) as u16,
+        (hi.w0 % 0x10000) as u16,
+        (hi.w0 / 0x10000) as u16,
+        (hi.w1 % 0x10000) as u16,
+        (hi.w1 / 0x10000) as u16,
+        (hi.w2 % 0x10000) as u16,
+        (hi.w2 / 0x10000) as u16,
+        (hi.w3 % 0x10000) as u16,
+        (hi.w3 / 0x10000) as u16,
+    ]
+}
+
+fn zero_block() -> Block
+    ensures { λ r. ⌜ bytesOf r ≡ Start.zeros ⌝ }
+{
+    Block {
+        w0: 0,
+        w1: 0,
+        w2: 0,
+        w3: 0,
+    }
+}
+
+// What b0 to b7 are loaded with.
+fn mode_block(mode: Mode) -> Block
+    ensures { λ r. ⌜ bytesOf r ≡ littles 2 (mode-cells mode) ⌝ }
+{
+    match mode {
+        Mode::Plain => zero_block(),
+        Mode::Sealed => Block {
+            w0: 0x78656c41,
+            w1: 0x20646b45,
+            w2: 0x676e694a,
+            w3: 0x6d6f6854,
+        },
+    }
+}
+
+// The registers loaded with the two halves of the key and the IV.
+pub fn load(low: Block, high: Block, iv: Block, mode: Mode) -> State
+    ensures { λ r. ⌜ registersOf r ≡ Start.load (bytesOf low ++ bytesOf high) (bytesOf iv) mode ⌝ }
+{
+    let a = cells(iv, low);
+    let b = cells(mode_block(mode), high);
+    let l = Lfsr { a: a, b: b };
+    let zero = zero_block();
+    State {
+        lfsr: l,
+        r1: zero,
+        r2: zero,
+        r3: zero,
+    }
+}
+
+// A block xored into a8 to a15.
+fn into_a(s: State, x: Block) -> State
+    ensures { λ r. ⌜ registersOf r ≡ Start.into-a (bytesOf x) (registersOf s) ⌝ }
+{
+    let l = s.lfsr;
+    let a = l.a;
+    let b = l.b;
+    let n = cells(cipher::low_half(a), words::xor(cipher::high_half(a), x));
+    let m = Lfsr { a: n, b: b };
+    let mut r = s;
+    r.lfsr = m;
+    r
+}
+
+// A block xored into R1.
+pub fn into_r1(s: State, x: Block) -> State
+    ensures { λ r. ⌜ registersOf r ≡ Start.into-r1 (bytesOf x) (registersOf s) ⌝ }
+{
+    let r1 = s.r1;
+    let n = words::xor(r1, x);
+    let mut r = s;
+    r.r1 = n;
+    r
+}
+
+// One of the 16 steps of a start, with the z that it gives.
+pub fn initial(s: State, sbox: &[u8; 256]) -> Moved
+    requires { ⌜ Holds sub (now sbox) ⌝ }
+    ensures { λ r. ⌜ Initials s r ⌝ }
+{
+    let w = cipher::forward(s, sbox);
+    let n = w.state;
+    let z = w.z;
+    let m = into_a(n, z);
+    Moved { state: m, z: z }
+}
+
+fn initials(s: State, n: usize, sbox: &[u8; 256]) -> State
+    requires { ⌜ Holds sub (now sbox) ⌝ }
+    ensures { λ r. ⌜ registersOf r ≡ Start.initials n (registersOf s) ⌝ }
+{
+    let mut t = s;
+    let mut i = 0;
+    while i < n {
+        let w = initial(t, sbox);
+        let u = w.state;
+        t = u;
+        i += 1;
+    }
+    t
+}
+
+// The state that a start leads to, and an answer: 0, or the refusal's number, and then the state is all zero.
+pub struct Started {
+    pub answer: u64,
+    pub state: State,
+}
+
+fn sixteen_steps(low: Block, high: Block, iv: Block, mode: Mode) -> State
+    ensures { λ r. ⌜ registersOf r ≡ Start.start (bytesOf low ++ bytesOf high) (bytesOf iv) mode ⌝ }
+{
+    let sbox = aes::sbox();
+    let s = initials(load(low, high, iv, mode), 15, &sbox);
+    let w = initial(into_r1(s, low), &sbox);
+    let t = w.state;
+    into_r1(t, high)
+}
+
+fn blank_state() -> State
+    ensures { λ r. ⌜ registersOf r ≡ blank ⌝ }
+{
+    let l = Lfsr {
+        a: [0; 16],
+        b: [0; 16],
+    };
+    let zero = zero_block();
+    State {
+        lfsr: l,
+        r1: zero,
+        r2: zero,
+        r3: zero,
+    }
+}
+
+// Start under a key of 32 bytes with an IV of 16, in either mode. Refused: 1 for the key's length, 2 for the IV's.
+pub fn start(key: &[u8], iv: &[u8], mode: Mode) -> Started
+    ensures { λ r. ⌜ Starts (now (key .entry)) (now (iv .entry)) mode r ⌝ }
+{
+    if key.len() != 32 {
+        return Started {
+            answer: scope::KEY_LENGTH,
+            state: blank_state(),
+        };
+    }
+    if iv.len() != 16 {
+        return Started {
+            answer: scope::IV_LENGTH,
+            state: blank_state(),
+        };
+    }
+    Started {
+        answer: scope::ACCEPTED,
+        state: sixteen_steps(
+            words::load(key, 0),
+            words::load(key, 16),
+            words::load(iv, 0),
+            mode,
+        ),
+    }
+}
+
+// The z of the step that led to a state, which does not hang on register A.
+fn z_before(s: State, inverse: &[u8; 256]) -> Block
+    requires { ⌜ Holds unsub (now inverse) ⌝ }
+    ensures { λ r. ⌜ bytesOf r ≡ Back.z-before (registersOf s) ⌝ }
+{
+    let l = s.lfsr;
+    let r2 = s.r2;
+    let r3 = s.r3;
+    let b = l.b;
+    words::xor(
+        words::plus(aes::unround(r2, inverse), cipher::low_half(b)),
+        aes::unround(r3, inverse),
+    )
+}
+
+// One of the 16 steps of a start, undone.
+fn uninitial(s: State, inverse: &[u8; 256]) -> State
+    requires { ⌜ Holds unsub (now inverse) ⌝ }
+    ensures { λ r. ⌜ registersOf r ≡ Trace.uninitial (registersOf s) ⌝ }
+{
+    let w = cipher::backward(into_a(s, z_before(s, inverse)), inverse);
+    w.state
+}
+
+fn uninitials(s: State, n: usize, inverse: &[u8; 256]) -> State
+    requires { ⌜ Holds unsub (now inverse) ⌝ }
+    ensures { λ r. ⌜ registersOf r ≡ Trace.uninitials n (registersOf s) ⌝ }
+{
+    let mut t = s;
+    let mut i = n;
+    while 0 < i {
+        let u = uninitial(t, inverse);
+        t = u;
+        i -= 1;
+    }
+    t
+}
+
+fn walked_back(s: State, n: u64, inverse: &[u8; 256]) -> State
+    requires { ⌜ Holds unsub (now inverse) ⌝ }
+    ensures { λ r. ⌜ registersOf r ≡ moves backward n (registersOf s) ⌝ }
+{
+    let mut t = s;
+    let mut i: u64 = 0;
+    while i < n {
+        let w = cipher::backward(t, inverse);
+        let u = w.state;
+        t = u;
+        i += 1;
+    }
+    t
+}
+
+// What a start under this key would have loaded.
+fn loaded(s: State, low: Block, high: Block, inverse: &[u8; 256]) -> State
+    requires { ⌜ Holds unsub (now inverse) ⌝ }
+    ensures { λ r. ⌜ registersOf r ≡ Trace.loaded (bytesOf low ++ bytesOf high) (registersOf s) ⌝ }
+{
+    let t = uninitial(into_r1(s, high), inverse);
+    uninitials(into_r1(t, low), 15, inverse)
+}
+
+fn same(x: Block, y: Block) -> bool
+    ensures { λ r. ⌜ r ≡ Trace.same (bytesOf x) (bytesOf y) ⌝ }
+{
+    (x.w0 == y.w0) & (x.w1 == y.w1) & (x.w2 == y.w2) & (x.w3 == y.w3)
+}
+
+// Whether a start in this mode under this key loads the state, with some IV.
+fn loads(s: State, low: Block, high: Block, mode: Mode) -> bool
+    ensures { λ r. ⌜ r ≡ Trace.loads (bytesOf low ++ bytesOf high) mode (registersOf s) ⌝ }
+{
+    let l = s.lfsr;
+    let a = l.a;
+    let b = l.b;
+    let r1 = s.r1;
+    let r2 = s.r2;
+    let r3 = s.r3;
+    let zero = zero_block();
+    same(cipher::high_half(a), low)
+        & same(cipher::low_half(b), mode_block(mode))
+        & same(cipher::high_half(b), high)
+        & same(r1, zero)
+        & same(r2, zero)
+        & same(r3, zero)
+}
+
+fn word64(lo: u32, hi: u32) -> u64
+    ensures { λ r. ⌜ little 8 r ≡ little 4 lo ++ little 4 hi ⌝ }
+{
+    lo as u64 + hi as u64 * 0x100000000
+}
+
+// Where a state comes from: the IV's bytes 0 to 7 and 8 to 15, low byte first, and the mode.
+pub struct Origin {
+    pub lo: u64,
+    pub hi: u64,
+    pub mode: Mode,
+}
+
+pub enum Traced {
+    Found(Origin),
+    Refused(u64),
+}
+
+fn found(iv: Block, mode: Mode) -> Traced
+    ensures { λ r. ⌜ answerOf r ≡ Trace.Answer.origin (bytesOf iv) mode ⌝ }
+{
+    Traced::Found(Origin {
+        lo: word64(iv.w0, iv.w1),
+        hi: word64(iv.w2, iv.w3),
+        mode: mode,
+    })
+}
+
+fn unload(s: State, low: Block, high: Block) -> Traced
+    ensures { λ r. ⌜ answerOf r ≡ Trace.unload (bytesOf low ++ bytesOf high) (registersOf s) ⌝ }
+{
+    let l = s.lfsr;
+    let a = l.a;
+    let iv = cipher::low_half(a);
+    if loads(s, low, high, Mode::Plain) {
+        return found(iv, Mode::Plain);
+    }
+    if loads(s, low, high, Mode::Sealed) {
+        return found(iv, Mode::Sealed);
+    }
+    Traced::Refused(scope::NO_ORIGIN)
+}
+
+// Document 01's trace: the IV and mode that lead to a state under a key at a count of blocks drawn. Refused: 1 for the key's length, 9 for
+// the count, 6 where no IV and mode lead there.
+pub fn trace(s: State, key: &[u8], count: u64) -> Traced
+    ensures { λ r. ⌜ answerOf r ≡ Trace.trace (registersOf s) (now (key .entry)) count ⌝ }
+{
+    if key.len() != 32 {
+        return Traced::Refused(scope::KEY_LENGTH);
+    }
+    if count > scope::MOST_BLOCKS {
+        return Traced::Refused(scope::COUNT_TOO_HIGH);
+    }
+    let inverse = aes::inverse_sbox();
+    let low = words::load(key, 0);
+    let high = words::load(key, 16);
+    let t = walked_back(s, count, &inverse);
+    unload(loaded(t, low, high, &inverse), low, high)
+}
