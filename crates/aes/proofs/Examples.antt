@@ -1,16 +1,11 @@
--- Worked examples: document 01's round of sixteen 00, the product of FIPS 197, section 4.2, and round 1 of the cipher example of its
--- appendix B, before the key is added, forth and back.
+-- Worked examples of FIPS 197: the product of section 4.2, and round 1 of the cipher example of appendix B, before the key is added, forth and
+-- back.
 use mathlib.Core.Path.{_≡_, refl}
 use mathlib.Core.List.{List, [], _∷_}
 use Prim.Native.Nat.{ℕ}
-use lib.ListN.{replicate}
 use Rattle.words.specs.Xor.{_⊕_}
 use Rattle.aes.specs.Field.{xtime, mulBits, gmul, square, powOnes, inverse, rotated, affine, unaffine, sub, unsub}
 use Rattle.aes.specs.Round.{pick, dot, mixBy, round, unround}
-
-pub zeros : round (replicate 16 0) ≡ replicate 16 0x63
-unfolding xtime mulBits gmul square powOnes inverse rotated affine sub pick dot mixBy round _⊕_
-zeros = refl
 
 product : gmul 0x57 0x13 ≡ 0xfe
 unfolding xtime mulBits gmul _⊕_

@@ -5,4 +5,3 @@ pub mod Back
 pub mod Window
 pub mod Unwind
 pub mod SnowV
-pub mod Cases

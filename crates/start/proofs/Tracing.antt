@@ -66,3 +66,8 @@ module _ (key : List ℕ) (k : Row 32 256 key) (n : ℕ) where
       λ e iv m l. never-both (walked s) iv m 6 (leads-walked l) (sym trace-is ∙ e),
       λ h. trace-is ∙ unload-six key k (loaded key (moves backward n s)) (λ iv m e. h iv m (walked-leads s g iv m e)),
     )
+
+  -- two starts that differ in IV or mode never meet at equal counts
+  pub never-meet : (iv iv′ : List ℕ) (m m′ : Mode) → IsBlock iv → IsBlock iv′ → ¬ ((iv ≡ iv′) × (m ≡ m′))
+      → ¬ (moves forward n (start key iv m) ≡ moves forward n (start key iv′ m′))
+  never-meet iv iv′ m m′ v v′ differ meet = differ (leads-one (record { iv-block = v; arrives = meet }) (record { iv-block = v′; arrives = refl }))

@@ -1,0 +1,11 @@
+-- The blocks that the benchmark's run writes to an output of len bytes.
+use Prim.Native.Nat.{ℕ, _/_}
+use mathlib.Core.List.{List}
+use lib.Dec.{eqb}
+use Rattle.scope.specs.Refusals.{granted}
+use Rattle.cipher.specs.Run.{run-part}
+use Rattle.start.specs.declared.Mode.the-variants.{Plain}
+use Rattle.start.specs.Start.{start, start-number, blank}
+
+unfoldable pub part : ℕ → (key iv : List ℕ) → (len : ℕ) → List ℕ
+part back key iv len = run-part (eqb back 1) (granted (start-number key iv) (start key iv Plain) blank) len (len / 16)
