@@ -1,0 +1,44 @@
+-- GHASH of a string of bytes, NIST SP 800-38D, section 6.4: Algorithm 2. A block is 16 bytes here, and byte 0 is its leftmost, as document 01,
+-- "Tag arithmetic", has it. Strings that are no whole number of blocks are left out: whoever hashes pads first.
+use Prim.Native.Nat.{ℕ, zero, suc, _+_, _*_, _/_, _%_, _^_}
+use mathlib.Core.List.{List, [], _∷_}
+use lib.ListN.{length, take, drop, replicate}
+use Rattle.words.specs.Xor.{xors}
+use Rattle.ghash.specs.Field.{product}
+
+-- the number that bytes spell, high byte first
+unfoldable pub big : List ℕ → ℕ
+big [] = 0
+big (b ∷ s) = b * 256 ^ length s + big s
+
+-- the k low bytes of n, high byte first
+unfoldable pub bigs : ℕ → ℕ → List ℕ
+bigs zero n = []
+bigs (suc k) n = n / 256 ^ k % 256 ∷ bigs k n
+
+-- X • Y of blocks as bytes
+infixl 70 _•_
+unfoldable pub _•_ : List ℕ → List ℕ → List ℕ
+x • y = bigs 16 (product (big x) (big y))
+
+-- Y(i) from Y(i-1), with the block X: (Y ⊕ X) • H
+unfoldable pub eat : (h y x : List ℕ) → List ℕ
+eat h y x = xors y x • h
+
+-- step 3 for blocks in turn, from Y on
+unfoldable pub eats : (h y : List ℕ) → List (List ℕ) → List ℕ
+eats h y [] = y
+eats h y (x ∷ xs) = eats h (eat h y x) xs
+
+-- the first m blocks of a string
+unfoldable pub blocks : ℕ → List ℕ → List (List ℕ)
+blocks zero s = []
+blocks (suc m) s = take 16 s ∷ blocks m (drop 16 s)
+
+-- the whole blocks of a string, from Y on
+unfoldable pub hashFrom : (h y s : List ℕ) → List ℕ
+hashFrom h y s = eats h y (blocks (length s / 16) s)
+
+-- GHASH under H: from the zero block on
+abbrev pub ghash : (h s : List ℕ) → List ℕ
+ghash h s = hashFrom h (replicate 16 0) s

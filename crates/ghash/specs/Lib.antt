@@ -1,0 +1,3 @@
+pub mod Field
+pub mod Hash
+pub mod Machine
