@@ -1,0 +1,156 @@
+// A vector of the paper: the blocks of the start and of the keystream, forward and back, held to those that it prints.
+ghost use mathlib.Core.Path.{_≡_};
+ghost use Prim.Native.Nat.{_*_, _≤_, _<_};
+ghost use lib.ListN.{length};
+use crate::report;
+use cipher::State;
+use start::Mode;
+use words::Block;
+
+enum Part {
+    Initialisation,
+    Keystream,
+    Back,
+}
+
+fn name(p: Part) {
+    match p {
+        Part::Initialisation => report::text(b" initialisation"),
+        Part::Keystream => report::text(b" keystream"),
+        Part::Back => report::text(b" keystream back"),
+    }
+}
+
+pub fn same(x: Block, y: Block) -> bool {
+    (x.w0 == y.w0) & (x.w1 == y.w1) & (x.w2 == y.w2) & (x.w3 == y.w3)
+}
+
+fn difference(v: u64, p: Part, i: usize, got: Block, expected: Block) {
+    report::text(b"SNOW-V ");
+    report::number(v);
+    name(p);
+    report::text(b", block ");
+    report::number(i as u64);
+    report::text(b": got ");
+    report::block(got);
+    report::text(b", expected ");
+    report::block(expected);
+    report::text(b"\n");
+}
+
+// Which block of n stands at place i: on the way back they come in the opposite order.
+fn place(p: Part, i: usize, n: usize) -> usize
+    requires { ⌜ i < n ⌝ }
+    ensures { λ r. ⌜ r < n ⌝ }
+{
+    match p {
+        Part::Back => n - 1 - i,
+        Part::Initialisation | Part::Keystream => i,
+    }
+}
+
+// How many of n blocks agree. A line is written for each that does not, with its number in the order made.
+fn agreeing(v: u64, p: Part, got: &[u8], expected: &[u8], n: usize) -> u64
+    requires { ⌜ (16 * n ≤ length (now got)) × (16 * n ≤ length (now expected)) ⌝ }
+{
+    let mut agreed: u64 = 0;
+    let mut i = 0;
+    while i < n {
+        let x = words::load(got, 16 * i);
+        let y = words::load(expected, 16 * place(p, i, n));
+        i += 1;
+        if same(x, y) {
+            agreed += 1;
+        } else {
+            difference(v, p, i, x, y);
+        }
+    }
+    agreed
+}
+
+// The key's first half goes into R1 at the end of step 15 of a start.
+fn after_step(s: State, low: Block, step: usize) -> State {
+    if step == 15 {
+        return start::into_r1(s, low);
+    }
+    s
+}
+
+// The z of each of the 16 steps of a start in plain mode.
+fn initialisation(key: [u8; 32], iv: [u8; 16]) -> [u8; 256] {
+    let sbox = aes::sbox();
+    let low = words::load(&key, 0);
+    let high = words::load(&key, 16);
+    let mut out = [0u8; 256];
+    let mut s = start::load(low, high, words::load(&iv, 0), Mode::Plain);
+    let mut i = 0;
+    while i < 16 {
+        let w = start::initial(s, &sbox);
+        let t = w.state;
+        let z = w.z;
+        words::store(&mut out, 16 * i, z);
+        i += 1;
+        let u = after_step(t, low, i);
+        s = u;
+    }
+    out
+}
+
+fn tally(agreed: u64, of: u64) {
+    report::number(agreed);
+    report::text(b" of ");
+    report::number(of);
+}
+
+// A run, which leaves the output as long as it was.
+pub fn run(s: State, answer: &mut u64, out: &mut [u8], n: usize, back: bool) -> State
+    ensures { λ _. ⌜ length (now (out .exit)) ≡ length (now (out .entry)) ⌝ }
+{
+    let w = cipher::run_core(s, answer, out, n, back);
+    w.state
+}
+
+fn started(key: [u8; 32], iv: [u8; 16]) -> State {
+    let t = start::start(&key, &iv, Mode::Plain);
+    t.state
+}
+
+// How many blocks agree, forward and back.
+struct Agreed {
+    forward: u64,
+    back: u64,
+}
+
+// Eight blocks forward, and from there back.
+fn keystream(v: u64, key: [u8; 32], iv: [u8; 16], expected: &[u8]) -> Agreed
+    requires { ⌜ 128 ≤ length (now expected) ⌝ }
+{
+    let mut answer: u64 = 0;
+    let mut out = [0u8; 128];
+    let e = run(started(key, iv), &mut answer, &mut out, 8, false);
+    let forward = agreeing(v, Part::Keystream, &out, expected, 8);
+    run(e, &mut answer, &mut out, 8, true);
+    let back = agreeing(v, Part::Back, &out, expected, 8);
+    Agreed {
+        forward: forward,
+        back: back,
+    }
+}
+
+// Vector number v: two lines, below one for each block that differs.
+pub fn vector(v: u64, key: [u8; 32], iv: [u8; 16], initial: [u8; 256], blocks: [u8; 128]) {
+    let got = initialisation(key, iv);
+    let agreed = agreeing(v, Part::Initialisation, &got, &initial, 16);
+    let k = keystream(v, key, iv, &blocks);
+    report::text(b"SNOW-V ");
+    report::number(v);
+    report::text(b": ");
+    tally(agreed, 16);
+    report::text(b" initialisation blocks agree, ");
+    tally(k.forward, 8);
+    report::text(b" keystream blocks agree\nSNOW-V ");
+    report::number(v);
+    report::text(b" back: ");
+    tally(k.back, 8);
+    report::text(b" keystream blocks agree, in the opposite order\n");
+}
