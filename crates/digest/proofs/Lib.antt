@@ -1,0 +1,4 @@
+pub mod Pieces
+pub mod Settling
+pub mod Kept
+pub mod Slices
