@@ -22,11 +22,10 @@ returns c =
     let a = t .before .before .before .before .args in
     let st = t .start .ensures .state in
     let xs = now (a .out) in
-    let p : (s : Registers) → List ℕ = λ s. run-part (eqb (a .back) 1) s (length xs) (length xs / 16) in
-    (
+    let p : (s : Registers) → List ℕ = λ s. run-part (eqb (a .back) 1) s (length xs) (length xs / 16) in (
       e .1 .1 .0,
       e .1 .1 .1 ∙ ap (λ (k : ℕ). p (registersOf (t .start .result .state)) ++ drop k xs) (e .1 .0)
-      ∙ ap (λ (s : Registers). run-part (eqb (a .back) 1) s (length xs) (length xs / 16) ++ drop (length (run-part (eqb (a .back) 1) s (length xs) (length xs / 16))) xs) st,
+          ∙ ap (λ (s : Registers). run-part (eqb (a .back) 1) s (length xs) (length xs / 16) ++ drop (length (run-part (eqb (a .back) 1) s (length xs) (length xs / 16))) xs) st,
     )
 
 pub measure-run-spec : {M : Type 1} → statement M
