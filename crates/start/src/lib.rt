@@ -263,7 +263,7 @@ fn loaded(s: State, low: Block, high: Block, inverse: &[u8; 256]) -> State
     uninitials(into_r1(t, low), 15, inverse)
 }
 
-fn same(x: Block, y: Block) -> bool
+pub fn same(x: Block, y: Block) -> bool
     ensures { λ r. ⌜ r ≡ Trace.same (bytesOf x) (bytesOf y) ⌝ }
 {
     (x.w0 == y.w0) & (x.w1 == y.w1) & (x.w2 == y.w2) & (x.w3 == y.w3)

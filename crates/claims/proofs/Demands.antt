@@ -1,0 +1,102 @@
+-- Demands 2 and 3. What a list ends in is the start that it began with, moved on by what it drew; and at a count a state has one such start, which
+-- trace finds.
+use mathlib.Core.Path.{_≡_, subst}
+use mathlib.Core.Bool.{not}
+use borrow.Author.Tests.{eqb-true, not-false}
+use lib.Dec.{eqb, lit<}
+use lib.ListN.{length}
+use Rattle.scope.specs.Refusals.{refuse, key-length, iv-length}
+use Rattle.words.specs.Bytes.{Row}
+use Rattle.cipher.specs.Registers.{Good}
+use Rattle.cipher.specs.Run.{forward}
+use Rattle.cipher.proofs.Moves.{moves-good}
+use Rattle.start.specs.Start.{start, start-number}
+use Rattle.start.specs.Leads.{LeadsTo}
+use Rattle.start.proofs.Answers.{both-right}
+use Rattle.start.proofs.Undo.{start-good}
+use Rattle.start.proofs.Tracing.{leads-one, trace-origin, trace-six}
+use Rattle.session.specs.Calls.{begin-call}
+use Rattle.page.proofs.WholeCalls.{refuse-none}
+use Rattle.claims.specs.Lists.{Bytes, History, History.in-session, History.in-runs, key-of, iv-of, mode-of, Accepted, end, drawn}
+use Rattle.claims.specs.Claims.{Keyed, SealsByPieces, SealsAndOpens, OneStayPerState}
+use Rattle.claims.proofs.Within.{row-of}
+use Rattle.claims.proofs.SuspendedLists.{state-leads, suspended, resumed, written}
+use Rattle.claims.proofs.Pieces.{page, any-list}
+use Rattle.claims.proofs.Opening.{seals, opens, refuses, turned-away}
+use Rattle.claims.proofs.Runs.{course-leads}
+
+-- ---- demand 2
+
+pub seals-by-pieces : SealsByPieces
+seals-by-pieces =
+    record {
+      page = page;
+      any-list = any-list;
+      resumed = λ key iv l cs out room. (suspended key iv l cs out room, resumed key iv l cs out (suspended key iv l cs out room));
+    }
+
+pub seals-and-opens : SealsAndOpens
+seals-and-opens =
+    record {
+      seals = seals;
+      opens = λ key iv ad text out into o room. opens key iv ad text out o into room;
+      refuses = λ key iv ad text out into tag o room. refuses key iv ad text out o into room tag;
+      refuses-any = λ key iv ad cipher into tag o l. turned-away key iv ad into (o .keyed) (o .ad-fits) (cipher .list) (tag .list) l (o .text-fits) (o .room);
+    }
+
+-- ---- demand 3
+
+-- what an accepted start, or begin, says of the lengths
+start-keyed : (key iv : Bytes) → start-number (key .list) (iv .list) ≡ 0 → Keyed key iv
+unfolding start-number
+start-keyed key iv e =
+    let k = length (key .list) in
+    let v = length (iv .list) in
+    let a = refuse-none (not (eqb k 32)) key-length (refuse (not (eqb v 16)) iv-length 0) (lit< tt) e in
+    let b = refuse-none (not (eqb v 16)) iv-length 0 (lit< tt) (a .1) in
+    record { key-long = eqb-true k 32 (not-false (eqb k 32) (a .0)); iv-long = eqb-true v 16 (not-false (eqb v 16) (b .0)) }
+
+begin-keyed : (key iv : Bytes) → begin-call (key .list) (iv .list) .number ≡ 0 → Keyed key iv
+unfolding begin-call
+begin-keyed key iv e = start-keyed key iv e
+
+accepted : (a : History) → length (key-of a) ≡ 32 → length (iv-of a) ≡ 16 → Accepted a
+unfolding begin-call
+accepted (in-session key iv cs) k v = both-right (key .list) (iv .list) k v
+accepted (in-runs key iv m rs) k v = both-right (key .list) (iv .list) k v
+
+key-row : (a : History) → Accepted a → Row 32 256 (key-of a)
+key-row (in-session key iv cs) e = row-of key (begin-keyed key iv e .key-long)
+key-row (in-runs key iv m rs) e = row-of key (start-keyed key iv e .key-long)
+
+leads : (a : History) → Accepted a → LeadsTo (key-of a) (drawn a) (iv-of a) (mode-of a) (end a)
+leads (in-session key iv cs) e =
+    record { iv-block = row-of iv (begin-keyed key iv e .iv-long); arrives = state-leads key iv (begin-keyed key iv e) cs }
+leads (in-runs key iv m rs) e = record { iv-block = row-of iv (start-keyed key iv e .iv-long); arrives = course-leads key iv m rs e }
+
+-- two lists that end in one state
+one : (a b : History) → Accepted a → Accepted b → key-of a ≡ key-of b → drawn a ≡ drawn b → end a ≡ end b
+    → (iv-of a ≡ iv-of b) × (mode-of a ≡ mode-of b)
+one a b p q k n e =
+    let l : LeadsTo (key-of a) (drawn a) (iv-of b) (mode-of b) (end a) = rw (k, n, e) (leads b q) in
+    leads-one (key-of a) (key-row a p) (drawn a) (leads a p) l
+
+end-good : (a : History) → Accepted a → Good (end a)
+end-good a e =
+    let l = leads a e in
+    subst Good (l .arrives)
+    (moves-good forward (drawn a) (start (key-of a) (iv-of a) (mode-of a)) (start-good (key-of a) (key-row a e) (iv-of a) (mode-of a) (l .iv-block)))
+
+pub one-stay-per-state : OneStayPerState
+one-stay-per-state =
+    record {
+      accepted = accepted;
+      leads = leads;
+      apart = λ a b p q k n differ e. differ (one a b p q k n e);
+      names = λ a e fits.
+          trace-origin (key-of a) (key-row a e) (drawn a) fits (end a) (end-good a e) (iv-of a) (mode-of a) .1 (leads a e);
+      traced = λ s g key e n fits. trace-origin (key .list) (row-of key e) n fits s g;
+      untraced = λ s g key e n fits. trace-six (key .list) (row-of key e) n fits s g;
+      written = λ key iv cs e out n. written key iv (begin-keyed key iv e) cs out n;
+      resumed = λ key iv cs e out n. resumed key iv (begin-keyed key iv e) cs out n;
+    }

@@ -1,0 +1,82 @@
+-- Whole pages: the ciphertext that seal wrote is the page's, so the tag that open makes anew is the page's, and a second xor with the keystream
+-- gives the text back.
+use mathlib.Core.Path.{_≡_, sym, ap, ap₂, _∙_}
+use mathlib.Core.List.{List, _++_}
+use Prim.Native.Nat.{ℕ, _≤_}
+use lib.ListN.{length, take, drop}
+use lib.Seq.{take-at}
+use Rattle.scope.specs.Limits.{most-data, most-text}
+use Rattle.page.specs.Page.{cipher-of, tag-for}
+use Rattle.page.proofs.Ciphertext.{cipher-length, cipher-twice}
+use Rattle.page.proofs.Tags.{tag-block}
+use Rattle.page.proofs.Answers.{seal-accepted, seal-writes, seal-gives, open-accepted, open-refused, open-writes, open-keeps}
+use Rattle.claims.specs.Lists.{Bytes}
+use Rattle.claims.specs.Claims.{Keyed, InOrder, sealed-text, sealed-tag, SealedWhole, Opened, TurnedAway}
+use Rattle.claims.proofs.Within.{row-of}
+
+-- ---- any ciphertext
+
+module _ (key iv ad into : Bytes) (l : Keyed key iv) (ad-fits : length (ad .list) ≤ most-data) (c tag : List ℕ) (tag-long : length tag ≡ 16)
+    (cipher-fits : length c ≤ most-text) (room : length c ≤ length (into .list)) where
+  pub turned-away : ¬ (tag ≡ tag-for (key .list) (iv .list) (ad .list) c) → TurnedAway key iv ad c tag into
+  turned-away h =
+      record {
+        number = open-refused (key .list) (iv .list) (ad .list) (l .key-long) (l .iv-long) ad-fits c tag (into .list) tag-long cipher-fits room h;
+        unwritten = open-keeps (key .list) (iv .list) (ad .list) (l .key-long) (l .iv-long) ad-fits c tag (into .list) tag-long cipher-fits room h;
+      }
+
+  opened : (text : Bytes) → tag ≡ tag-for (key .list) (iv .list) (ad .list) c → c ≡ cipher-of (key .list) (iv .list) (text .list)
+      → Opened key iv ad c tag into text
+  opened text e f =
+      let n : length c ≡ length (text .list) = ap length f ∙ cipher-length (key .list) (iv .list) (text .list) in
+      let m : cipher-of (key .list) (iv .list) c ≡ text .list =
+      ap (cipher-of (key .list) (iv .list)) f ∙ cipher-twice (key .list) (iv .list) (text .list) in
+      record {
+        accepted = open-accepted (key .list) (iv .list) (ad .list) (l .key-long) (l .iv-long) ad-fits c tag (into .list) tag-long cipher-fits room e;
+        written = open-writes (key .list) (iv .list) (ad .list) (l .key-long) (l .iv-long) ad-fits c tag (into .list) tag-long cipher-fits room e
+            ∙ ap₂ (λ (x : List ℕ) (i : ℕ). x ++ drop i (into .list)) m n;
+      }
+
+-- ---- a sealed page
+
+module _ (key iv ad text out : Bytes) (o : InOrder key iv ad text out) where
+  pub seals : SealedWhole key iv ad text out
+  seals =
+      let kl = o .keyed .key-long in
+      let vl = o .keyed .iv-long in
+      record {
+        accepted = seal-accepted (key .list) (iv .list) (ad .list) kl vl (o .ad-fits) (text .list) (out .list) (o .text-fits) (o .room);
+        written = seal-writes (key .list) (iv .list) (ad .list) kl vl (o .ad-fits) (text .list) (out .list) (o .text-fits) (o .room);
+        tag = seal-gives (key .list) (iv .list) (ad .list) kl vl (o .ad-fits) (text .list) (out .list) (o .text-fits) (o .room);
+      }
+
+  front : sealed-text key iv ad text out ≡ cipher-of (key .list) (iv .list) (text .list)
+  front =
+      ap (take (length (text .list))) (seals .written)
+      ∙ take-at (cipher-of (key .list) (iv .list) (text .list)) (drop (length (text .list)) (out .list)) (length (text .list))
+      (cipher-length (key .list) (iv .list) (text .list))
+
+  long : length (sealed-text key iv ad text out) ≡ length (text .list)
+  long = ap length front ∙ cipher-length (key .list) (iv .list) (text .list)
+
+  -- the tag that seal gave is the one that open makes of what seal wrote
+  tag-again : sealed-tag key iv ad text out ≡ tag-for (key .list) (iv .list) (ad .list) (sealed-text key iv ad text out)
+  tag-again = seals .tag ∙ ap (tag-for (key .list) (iv .list) (ad .list)) (sym front)
+
+  tag-long : length (sealed-tag key iv ad text out) ≡ 16
+  tag-long =
+      ap length (seals .tag)
+      ∙ tag-block (key .list) (iv .list) (ad .list) (cipher-of (key .list) (iv .list) (text .list))
+      (row-of key (o .keyed .key-long)) (row-of iv (o .keyed .iv-long)) .long
+
+  module _ (into : Bytes) (room : length (text .list) ≤ length (into .list)) where
+    pub opens : Opened key iv ad (sealed-text key iv ad text out) (sealed-tag key iv ad text out) into text
+    opens =
+        opened key iv ad into (o .keyed) (o .ad-fits) (sealed-text key iv ad text out) (sealed-tag key iv ad text out) tag-long
+        (rw long (o .text-fits)) (rw long room) text tag-again front
+
+    pub refuses : (tag : Bytes) → length (tag .list) ≡ 16 → ¬ (tag .list ≡ sealed-tag key iv ad text out)
+        → TurnedAway key iv ad (sealed-text key iv ad text out) (tag .list) into
+    refuses tag l h =
+        turned-away key iv ad into (o .keyed) (o .ad-fits) (sealed-text key iv ad text out) (tag .list) l (rw long (o .text-fits)) (rw long room)
+        (λ e. h (e ∙ sym tag-again))

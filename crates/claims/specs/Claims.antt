@@ -1,0 +1,142 @@
+-- Demands 2 and 3 (the user's words stand in quotes), as statements about every list of calls, every page and every state. They speak of the
+-- functions that the contracts of start, run, trace, begin, data, text, finish, suspend, resume, seal and open name, and of the page as the paper
+-- defines it.
+use Prim.Native.Nat.{ℕ, _≤_}
+use mathlib.Core.Path.{_≡_}
+use mathlib.Core.Logic.{_↔_}
+use mathlib.Core.List.{List, _++_}
+use lib.ListN.{length, take, drop}
+use Rattle.scope.specs.Limits.{most-data, most-text, most-blocks}
+use Rattle.scope.specs.Refusals.{bad-tag, no-origin}
+use Rattle.fields.specs.Fields.{part}
+use Rattle.cipher.specs.Registers.{Registers, Good}
+use Rattle.start.specs.declared.Mode.{Mode}
+use Rattle.start.specs.Leads.{LeadsTo}
+use Rattle.start.specs.Trace.{Answer.origin, Answer.refused, trace}
+use Rattle.session.specs.Calls.{begin-call, finish-call}
+use Rattle.layout.specs.Block.{registers-at}
+use Rattle.suspend.specs.Calls.{suspend-call, resume-call}
+use Rattle.page.specs.Page.{cipher-of, tag-for, page-tag}
+use Rattle.page.specs.Calls.{seal-number, seal-out, seal-tag, open-number, open-out}
+use Rattle.claims.specs.Lists.{Bytes, Call, after, Joins, History, History.in-session, key-of, iv-of, mode-of, Accepted, end, drawn}
+
+-- a key of 32 bytes and an IV of 16
+pub record Keyed (key iv : Bytes) : Type 0 where
+  pub key-long : length (key .list) ≡ 32
+  pub iv-long : length (iv .list) ≡ 16
+
+-- ---- suspending and resuming
+
+-- suspend of where a list has come to, into this output: its number, and what the output then holds
+abbrev pub suspended-number : (key iv : Bytes) → List Call → (out : Bytes) → ℕ
+suspended-number key iv cs out = suspend-call (after key iv cs .session) (out .list) .number
+
+abbrev pub suspended-out : (key iv : Bytes) → List Call → (out : Bytes) → List ℕ
+suspended-out key iv cs out = suspend-call (after key iv cs .session) (out .list) .out
+
+-- Resume right after it, with the 512 bytes that it wrote and the begin's key, is accepted and "gives the very session that was parked", and the
+-- IV that the list began with.
+abbrev pub Resumes : (key iv : Bytes) → List Call → (out : Bytes) → Type 0
+Resumes key iv cs out =
+    resume-call (key .list) (take 512 (suspended-out key iv cs out)) ≡ record { number = 0; iv = iv .list; session = after key iv cs .session }
+
+-- ---- demand 2: sealing by pieces
+
+-- what a list of calls has written, and what finish then gives, are the page's ciphertext and tag
+pub record Sealed (key iv : Bytes) (cs : List Call) (ad text : List ℕ) : Type 0 where
+  pub begun : begin-call (key .list) (iv .list) .number ≡ 0
+  pub cipher : after key iv cs .cipher ≡ cipher-of (key .list) (iv .list) text
+  pub accepted : finish-call (after key iv cs .session) .number ≡ 0
+  pub tag : finish-call (after key iv cs .session) .out ≡ page-tag (key .list) (iv .list) ad text
+
+-- "Where nothing is turned away, sealing gives precisely the ciphertext and tag that the SNOW-V paper defines, .. for every list of pieces that
+-- join to it, parked and taken up between them or not."
+pub record SealsByPieces : Type 0 where
+  -- For every page within the limits and every list of pieces that join to it, with suspends and resumes anywhere: the ciphertext pieces join to
+  -- the page's ciphertext, and finish is accepted and gives its tag.
+  pub page : (key iv : Bytes) → Keyed key iv → (ad text : List ℕ) → length ad ≤ most-data → length text ≤ most-text → (cs : List Call)
+      → Joins cs ad text → Sealed key iv cs ad text
+  -- For every list of calls at all, refused ones included: the same of the pieces that were accepted.
+  pub any-list : (key iv : Bytes) → Keyed key iv → (cs : List Call) → Sealed key iv cs (after key iv cs .ad) (after key iv cs .text)
+  -- After every list of calls, suspend is accepted where the output has room for its 512 bytes, and resume right after it gives the very session.
+  pub resumed : (key iv : Bytes) → Keyed key iv → (cs : List Call) (out : Bytes) → 512 ≤ length (out .list)
+      → (suspended-number key iv cs out ≡ 0) × Resumes key iv cs out
+
+-- ---- demand 2: whole pages
+
+-- all that is lent has its length in order, for seal; and for open, with a ciphertext in the text's place
+pub record InOrder (key iv ad text out : Bytes) : Type 0 where
+  pub keyed : Keyed key iv
+  pub ad-fits : length (ad .list) ≤ most-data
+  pub text-fits : length (text .list) ≤ most-text
+  pub room : length (text .list) ≤ length (out .list)
+
+-- the ciphertext where seal wrote it, and the tag that it gave
+abbrev pub sealed-text : (key iv ad text out : Bytes) → List ℕ
+sealed-text key iv ad text out = take (length (text .list)) (seal-out (key .list) (iv .list) (ad .list) (text .list) (out .list))
+
+abbrev pub sealed-tag : (key iv ad text out : Bytes) → List ℕ
+sealed-tag key iv ad text out = seal-tag (key .list) (iv .list) (ad .list) (text .list) (out .list)
+
+-- seal is accepted, writes the page's ciphertext at the front of its output and nothing behind it, and gives the page's tag
+pub record SealedWhole (key iv ad text out : Bytes) : Type 0 where
+  pub accepted : seal-number (key .list) (iv .list) (ad .list) (text .list) (out .list) ≡ 0
+  pub written : seal-out (key .list) (iv .list) (ad .list) (text .list) (out .list)
+      ≡ cipher-of (key .list) (iv .list) (text .list) ++ drop (length (text .list)) (out .list)
+  pub tag : sealed-tag key iv ad text out ≡ page-tag (key .list) (iv .list) (ad .list) (text .list)
+
+-- open of this ciphertext and tag is accepted, writes the text at the front of its output and nothing behind it
+pub record Opened (key iv ad : Bytes) (cipher tag : List ℕ) (out text : Bytes) : Type 0 where
+  pub accepted : open-number (key .list) (iv .list) (ad .list) cipher tag (out .list) ≡ 0
+  pub written : open-out (key .list) (iv .list) (ad .list) cipher tag (out .list) ≡ text .list ++ drop (length (text .list)) (out .list)
+
+-- it is refused with 5 and writes nothing
+pub record TurnedAway (key iv ad : Bytes) (cipher tag : List ℕ) (out : Bytes) : Type 0 where
+  pub number : open-number (key .list) (iv .list) (ad .list) cipher tag (out .list) ≡ bad-tag
+  pub unwritten : open-out (key .list) (iv .list) (ad .list) cipher tag (out .list) ≡ out .list
+
+-- Seal gives the page that the paper defines; open gives the text back under the tag so defined, and under any other refuses.
+pub record SealsAndOpens : Type 0 where
+  pub seals : (key iv ad text out : Bytes) → InOrder key iv ad text out → SealedWhole key iv ad text out
+  -- What was sealed opens to its text, into every output that is long enough.
+  pub opens : (key iv ad text out into : Bytes) → InOrder key iv ad text out → length (text .list) ≤ length (into .list)
+      → Opened key iv ad (sealed-text key iv ad text out) (sealed-tag key iv ad text out) into text
+  -- Under any other tag of 16 bytes it does not.
+  pub refuses : (key iv ad text out into tag : Bytes) → InOrder key iv ad text out → length (text .list) ≤ length (into .list)
+      → length (tag .list) ≡ 16 → ¬ (tag .list ≡ sealed-tag key iv ad text out)
+      → TurnedAway key iv ad (sealed-text key iv ad text out) (tag .list) into
+  -- Nor does any ciphertext, sealed here or not, under a tag that is not the one defined for it.
+  pub refuses-any : (key iv ad cipher into tag : Bytes) → InOrder key iv ad cipher into → length (tag .list) ≡ 16
+      → ¬ (tag .list ≡ tag-for (key .list) (iv .list) (ad .list) (cipher .list))
+      → TurnedAway key iv ad (cipher .list) (tag .list) into
+
+-- ---- demand 3
+
+-- "No two stays are ever in the same cipher state, and a state names its stay." A stay is an IV with its mode; a cipher state is the contents of
+-- A, B, R1, R2 and R3, and a session's are those that suspend writes. This is one claim about every list of either kind, refused calls included,
+-- about every two of them, and about every state.
+pub record OneStayPerState : Type 0 where
+  -- Begin, and start in either mode, are accepted under every key of 32 bytes and stay number of 16: the lists are those of every stay.
+  pub accepted : (a : History) → length (key-of a) ≡ 32 → length (iv-of a) ≡ 16 → Accepted a
+  -- "After each such list, the stay number and mode that it began with lead to the cipher state, under its key and at its count of blocks drawn."
+  pub leads : (a : History) → Accepted a → LeadsTo (key-of a) (drawn a) (iv-of a) (mode-of a) (end a)
+  -- "Two such lists, of one kind or of both, always end in different cipher states if they share a key, have drawn equally many blocks, at most
+  -- 65,538, and differ in stay number or mode." It is shown at every count, those up to 65,538 among them.
+  pub apart : (a b : History) → Accepted a → Accepted b → key-of a ≡ key-of b → drawn a ≡ drawn b
+      → ¬ ((iv-of a ≡ iv-of b) × (mode-of a ≡ mode-of b)) → ¬ (end a ≡ end b)
+  -- "A state names its stay": up to 65,538 blocks, trace from where a list ended gives the stay number and mode that it began with.
+  pub names : (a : History) → Accepted a → drawn a ≤ most-blocks → trace (end a) (key-of a) (drawn a) ≡ origin (iv-of a) (mode-of a)
+  -- "Walking back (trace) gives the one stay number and mode that lead to a state .. That is claimed of every state, reached or not, under every
+  -- key of 32 bytes and at every count up to 65,538." Trace has one answer, so that no other stay number or mode leads there. `Good` holds of
+  -- every state: its cells have 16 bits, and its blocks are 16 bytes.
+  pub traced : (s : Registers) → Good s → (key : Bytes) → length (key .list) ≡ 32 → (n : ℕ) → n ≤ most-blocks → (iv : List ℕ) (m : Mode)
+      → (trace s (key .list) n ≡ origin iv m) ↔ LeadsTo (key .list) n iv m s
+  -- "and is refused with 6 exactly when none leads there"
+  pub untraced : (s : Registers) → Good s → (key : Bytes) → length (key .list) ≡ 32 → (n : ℕ) → n ≤ most-blocks
+      → (trace s (key .list) n ≡ refused no-origin) ↔ ((iv : List ℕ) (m : Mode) → ¬ LeadsTo (key .list) n iv m s)
+  -- Every accepted park of where a list ended writes the registers of that cipher state at bytes 16-127, whatever output it is lent.
+  pub written : (key iv : Bytes) (cs : List Call) → Accepted (in-session key iv cs) → (out : Bytes) → suspended-number key iv cs out ≡ 0
+      → registers-at (part 16 112 (suspended-out key iv cs out)) ≡ end (in-session key iv cs)
+  -- Every take up that stands in a list is accepted, and gives the stay number that the list began with and the very session that was parked.
+  pub resumed : (key iv : Bytes) (cs : List Call) → Accepted (in-session key iv cs) → (out : Bytes) → suspended-number key iv cs out ≡ 0
+      → Resumes key iv cs out

@@ -1,0 +1,62 @@
+-- Parts of a list: parts of parts, a list that is fields one behind the other, and a list put together from its parts.
+use mathlib.Core.Path.{_≡_, refl, sym, ap, ap₂, _∙_}
+use mathlib.Core.List.{List, [], _∷_, _++_}
+use Prim.Native.Nat.{ℕ, zero, suc, _+_, _-_, _≤_, _<_}
+use native.Mathlib.Omega.{arith}
+use lib.ListN.{length, take, drop, getD}
+use lib.Seq.{take-at, drop-at, drop-cons, drop-drop, take-take, take-add}
+use Rattle.words.specs.Bytes.{Row}
+use Rattle.words.proofs.Rows.{row-take, row-drop}
+use Rattle.fields.specs.Fields.{part}
+
+-- a part, from its byte i on
+pub part-next : (s : List ℕ) (at k i : ℕ) → i < k → at + k ≤ length s
+    → part (at + i) (k - i) s ≡ getD s (at + i) 0 ∷ part (at + (i + 1)) (k - (i + 1)) s
+part-next s at k i h n =
+    let e : k - i ≡ suc (k - (i + 1)) = omega arith in
+    let f : at + (i + 1) ≡ suc (at + i) = omega arith in
+    let g : at + i < length s = omega arith in
+    rw (e, f, drop-cons s (at + i) 0 g)
+
+drop-take : (h k : ℕ) (l : List ℕ) → h ≤ k → drop h (take k l) ≡ take (k - h) (drop h l)
+drop-take zero k l q = ap (λ (n : ℕ). take n l) (let e : k ≡ k - 0 = omega arith in e)
+drop-take (suc h) zero l q = absurd (omega arith)
+drop-take (suc h) (suc k) [] q = let e : suc k - suc h ≡ k - h = omega arith in rw e (nothing (k - h))
+  where
+    nothing : (n : ℕ) → _≡_ {A = List ℕ} [] (take n [])
+    nothing zero = refl
+    nothing (suc n) = refl
+drop-take (suc h) (suc k) (x ∷ l) q = let e : suc k - suc h ≡ k - h = omega arith in rw e (drop-take h k l (omega arith))
+
+-- the end of a part
+pub part-behind : (s : List ℕ) (at k h : ℕ) → h ≤ k → drop h (part at k s) ≡ part (at + h) (k - h) s
+part-behind s at k h q = drop-take h k (drop at s) q ∙ ap (take (k - h)) (drop-drop h at s)
+
+-- a part of a part
+pub part-part : (s : List ℕ) (at k h j : ℕ) → h + j ≤ k → part h j (part at k s) ≡ part (at + h) j s
+part-part s at k h j q = ap (take j) (part-behind s at k h (omega arith)) ∙ take-take j (k - h) (drop (at + h) s) (omega arith)
+
+-- a part of a row
+pub part-row : (m l : ℕ) {s : List ℕ} → 0 < m → Row l m s → (at k : ℕ) → at + k ≤ l → Row k m (part at k s)
+part-row m l z r at k h = row-take m (l - at) (row-drop m l r at) k z (omega arith)
+
+-- ---- apart: from place n on, s is the fields fs
+
+abbrev pub join : List (List ℕ) → List ℕ
+join [] = []
+join (u ∷ fs) = u ++ join fs
+
+pub record At (s : List ℕ) (n : ℕ) (fs : List (List ℕ)) : Type 0 where
+  pub is : drop n s ≡ join fs
+
+module _ {s : List ℕ} {n : ℕ} {u : List ℕ} {fs : List (List ℕ)} (d : At s n (u ∷ fs)) (k : ℕ) (e : length u ≡ k) where
+  pub down : At s (n + k) fs
+  down = record { is = sym (drop-drop k n s) ∙ ap (drop k) (d .is) ∙ drop-at u (join fs) k e }
+
+  pub here : part n k s ≡ u
+  here = ap (take k) (d .is) ∙ take-at u (join fs) k e
+
+-- ---- together: one field more
+
+pub grow : (s : List ℕ) (n k : ℕ) {pre f : List ℕ} → pre ≡ take n s → f ≡ part n k s → pre ++ f ≡ take (n + k) s
+grow s n k a b = ap₂ (λ (x y : List ℕ). x ++ y) a b ∙ sym (take-add n k s)

@@ -1,0 +1,115 @@
+// The block of 512 bytes that a suspended session is kept in: written, and read.
+ghost use mathlib.Core.Path.{_≡_};
+ghost use Prim.Native.Nat.{_+_, _≤_};
+ghost use lib.ListN.{length};
+ghost use lib.Seq.{sets};
+ghost use Rattle.words.specs.Bytes.{littles};
+ghost use Rattle.fields.specs.Fields.{part};
+ghost use Rattle.cipher.specs.Machine.{registersOf};
+ghost use Rattle.layout.specs.Block;
+ghost use Rattle.layout.specs.Block.{registers-bytes, registers-at, block-of};
+ghost use Rattle.kept.specs.Machine.{keptOf};
+use cipher::State;
+use digest::Held;
+use lfsr::Lfsr;
+
+// What a block keeps of a session.
+pub struct Fields {
+    pub phase: u8,
+    pub ad: u64,
+    pub text: u64,
+    pub state: State,
+    pub held: Held,
+}
+
+// The sixteen cells of a register, at a place.
+fn put_cells(out: &mut [u8], at: usize, l: [u16; 16])
+    requires { ⌜ at + 32 ≤ length (now out) ⌝ }
+    ensures { λ _. ⌜ now (out .exit) ≡ sets (now (out .entry)) at (littles 2 l) ⌝ }
+{
+    words::store(out, at, cipher::low_half(l));
+    words::store(out, at + 16, cipher::high_half(l));
+}
+
+// The 112 bytes of the registers, at a place.
+pub fn put_state(out: &mut [u8], at: usize, s: State)
+    requires { ⌜ at + 112 ≤ length (now out) ⌝ }
+    ensures { λ _. ⌜ now (out .exit) ≡ sets (now (out .entry)) at (registers-bytes (registersOf s)) ⌝ }
+{
+    let l = s.lfsr;
+    let r1 = s.r1;
+    let r2 = s.r2;
+    let r3 = s.r3;
+    let a = l.a;
+    let b = l.b;
+    put_cells(out, at, a);
+    put_cells(out, at + 32, b);
+    words::store(out, at + 64, r1);
+    words::store(out, at + 80, r2);
+    words::store(out, at + 96, r3);
+}
+
+// And the registers that 112 bytes at a place list.
+pub fn get_state(s: &[u8], at: usize) -> State
+    requires { ⌜ at + 112 ≤ length (now s) ⌝ }
+    ensures { λ r. ⌜ registersOf r ≡ registers-at (part at 112 (now (s .entry))) ⌝ }
+{
+    let a = fields::cells(s, at);
+    let b = fields::cells(s, at + 32);
+    let r1 = words::load(s, at + 64);
+    let r2 = words::load(s, at + 80);
+    let r3 = words::load(s, at + 96);
+    let l = Lfsr { a: a, b: b };
+    State {
+        lfsr: l,
+        r1: r1,
+        r2: r2,
+        r3: r3,
+    }
+}
+
+// The block: zeros, then the fields, then the check.
+pub fn block_of(f: Fields) -> [u8; 512]
+    ensures { λ r. ⌜ r ≡ block-of (keptOf f) ⌝ }
+{
+    let held = f.held;
+    let acc = held.acc;
+    let pending = held.pending;
+    let state = f.state;
+    let hash = ghash::to_block(acc);
+    let rest = words::load(&pending, 0);
+    let mut block = [0u8; 512];
+    block[0] = f.phase;
+    fields::put(&mut block, 4, 4, f.ad);
+    fields::put(&mut block, 8, 4, f.text);
+    put_state(&mut block, 16, state);
+    words::store(&mut block, 128, hash);
+    words::store(&mut block, 144, rest);
+    let sum = fields::check(&block);
+    fields::put(&mut block, 508, 4, sum as u64);
+    block
+}
+
+// What a block says, with no rule tested.
+pub fn read(block: &[u8]) -> Fields
+    requires { ⌜ length (now block) ≡ 512 ⌝ }
+    ensures { λ r. ⌜ keptOf r ≡ Block.read (now (block .entry)) ⌝ }
+{
+    let phase = block[0];
+    let ad = fields::get(block, 4, 4);
+    let text = fields::get(block, 8, 4);
+    let state = get_state(block, 16);
+    let acc = ghash::from_block(words::load(block, 128));
+    let pending = words::to_bytes(words::load(block, 144));
+    let held = Held {
+        acc: acc,
+        pending: pending,
+    };
+    Fields {
+        phase: phase,
+        ad: ad,
+        text: text,
+        state: state,
+        held: held,
+    }
+}

@@ -1,0 +1,4 @@
+pub mod RegisterBytes
+pub mod Obeying
+pub mod Written
+pub mod Taken

@@ -1,0 +1,58 @@
+-- The layout rules of a suspended session's block (document 01, "Sessions and parking"), each with the words that it renders. A block that
+-- breaks one is refused with 8.
+use Prim.Native.Nat.{ℕ, _%_, _≤_}
+use mathlib.Core.Path.{_≡_}
+use mathlib.Core.Bool.{Bool, true, not, _&&_, _||_}
+use mathlib.Core.List.{List, [], _∷_}
+use lib.Dec.{eqb, leb}
+use lib.ListN.{getD, length, drop}
+use Rattle.scope.specs.Limits.{most-data, most-text}
+use Rattle.scope.specs.Refusals.{pick}
+use Rattle.words.specs.Bytes.{number, IsBlock}
+use Rattle.fields.specs.Fields.{part, blank, check}
+use Rattle.cipher.specs.Registers.{Good}
+use Rattle.layout.specs.Block.{Kept, read}
+
+-- "the phase's length"
+abbrev pub phase-length : (phase ad text : ℕ) → ℕ
+phase-length phase ad text = pick (eqb phase 0) ad text
+
+unfoldable pub rules : List ℕ → List Bool
+rules b =
+    -- "the block has 512 bytes"
+    eqb (length b) 512
+    -- "Phase is 0 or 1"
+    ∷ leb (read b .phase) 1
+    -- "the lengths obey refusal 3"
+    ∷ leb (read b .ad) most-data
+    ∷ leb (read b .text) most-text
+    -- zero "and so are .. the text length in phase 0"
+    ∷ (not (eqb (read b .phase) 0) || eqb (read b .text) 0)
+    -- zero "and so are bytes 144-159 past (the phase's length modulo 16)"
+    ∷ blank (drop (phase-length (read b .phase) (read b .ad) (read b .text) % 16) (part 144 16 b))
+    -- "All other bytes are zero"
+    ∷ blank (part 1 3 b)
+    ∷ blank (part 12 4 b)
+    ∷ blank (part 160 348 b)
+    -- "508-511 check"
+    ∷ eqb (number (part 508 4 b)) (check b)
+    ∷ []
+
+unfoldable pub every : List Bool → Bool
+every [] = true
+every (b ∷ l) = b && every l
+
+-- whether bytes obey all of them
+abbrev pub well-laid : List ℕ → Bool
+well-laid b = every (rules b)
+
+-- what may be kept, so that its block obeys the rules
+pub record Fine (k : Kept) : Type 0 where
+  pub phase-is : k .phase ≤ 1
+  pub ad-fits : k .ad ≤ most-data
+  pub text-fits : k .text ≤ most-text
+  pub text-none : k .phase ≡ 0 → k .text ≡ 0
+  pub registers-good : Good (k .registers)
+  pub hash-block : IsBlock (k .sum .hash)
+  pub pending-block : IsBlock (k .sum .pending)
+  pub zeros-behind : (i : ℕ) → phase-length (k .phase) (k .ad) (k .text) % 16 ≤ i → getD (k .sum .pending) i 0 ≡ 0

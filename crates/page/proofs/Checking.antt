@@ -1,0 +1,21 @@
+-- The tag that open compares is the one defined for the data and the ciphertext; and what the four calls of a page hand on.
+use mathlib.Core.Path.{_≡_, sym, ap, _∙_}
+use mathlib.Core.List.{List}
+use Prim.Native.Nat.{ℕ, _≤_}
+use native.Mathlib.Omega.{arith}
+use lib.ListN.{length, take, drop}
+use lib.Seq.{take-all}
+use Rattle.start.specs.Trace.{same}
+use Rattle.session.specs.Calls.{closed, tag-of}
+use Rattle.page.specs.Page.{tag-for}
+use Rattle.page.specs.Inner.{tag-over}
+use Rattle.page.proofs.Stages.{Stage.taking-data, phase-at, sum-at, session-at}
+use Rattle.page.proofs.Tags.{tag-for-is}
+
+pub tag-over-at : (key iv d c : List ℕ) → tag-over (session-at key iv (taking-data d)) c ≡ tag-for key iv d c
+unfolding tag-over tag-of closed session-at phase-at sum-at
+tag-over-at key iv d c = sym (tag-for-is key iv d c)
+
+-- sixteen bytes from the front of sixteen bytes
+pub front-16 : (l s : List ℕ) → length s ≡ 16 → l ≡ take 16 (drop 0 s) → l ≡ s
+front-16 l s e p = p ∙ take-all 16 s (omega arith)

@@ -1,0 +1,72 @@
+-- The ciphertext byte by byte: it goes on from where the text before it ended, it is as long as the text, its bytes are bytes, and a second
+-- xor with the same keystream undoes the first.
+use mathlib.Core.Path.{_≡_, refl, ap}
+use mathlib.Core.List.{List, [], _∷_, _++_}
+use Prim.Native.Nat.{ℕ, zero, suc, _+_, _/_, _%_}
+use native.Mathlib.Nat.{add-zero}
+use native.Mathlib.Omega.{arith}
+use lib.Dec.{lit<}
+use lib.ListN.{length, getD}
+use Rattle.words.specs.Xor.{_⊕_}
+use Rattle.words.specs.Bytes.{Row, IsBlock}
+use Rattle.words.proofs.Rows.{Below}
+use Rattle.words.proofs.XorLaws.{⊕-lt, xor}
+use Rattle.cipher.specs.Registers.{Good}
+use Rattle.cipher.specs.Run.{forward, moves}
+use Rattle.cipher.proofs.Inverse.{z-block}
+use Rattle.cipher.proofs.Moves.{moves-good}
+use Rattle.start.specs.declared.Mode.the-variants.{Sealed}
+use Rattle.start.specs.Start.{start}
+use Rattle.start.proofs.Undo.{start-good}
+use Rattle.page.specs.Page.{keystream, encrypted, cipher-of}
+
+-- the keystream's byte for byte i of the text
+abbrev pub stream-byte : (key iv : List ℕ) → ℕ → ℕ
+stream-byte key iv i = getD (keystream key iv (2 + i / 16)) (i % 16) 0
+
+module _ (key iv : List ℕ) where
+  pub encrypted-append : (i : ℕ) (s t : List ℕ) → encrypted key iv i (s ++ t) ≡ encrypted key iv i s ++ encrypted key iv (i + length s) t
+  unfolding encrypted
+  encrypted-append i [] t = rw add-zero
+  encrypted-append i (b ∷ s) t =
+      let e : i + suc (length s) ≡ i + 1 + length s = omega arith in
+      rw (e, encrypted-append (i + 1) s t)
+
+  pub encrypted-one : (i b : ℕ) → encrypted key iv i (b ∷ []) ≡ (b ⊕ stream-byte key iv i) ∷ []
+  unfolding encrypted
+  encrypted-one i b = refl
+
+  pub encrypted-length : (i : ℕ) (t : List ℕ) → length (encrypted key iv i t) ≡ length t
+  unfolding encrypted
+  encrypted-length i [] = refl
+  encrypted-length i (b ∷ t) = ap suc (encrypted-length (i + 1) t)
+
+  pub encrypted-twice : (i : ℕ) (t : List ℕ) → encrypted key iv i (encrypted key iv i t) ≡ t
+  unfolding encrypted
+  encrypted-twice i [] = refl
+  encrypted-twice i (b ∷ t) = rw (encrypted-twice (i + 1) t) (ap (λ (x : ℕ). x ∷ t) (simp xor))
+
+  -- of a whole page
+  pub cipher-length : (t : List ℕ) → length (cipher-of key iv t) ≡ length t
+  cipher-length t = encrypted-length 0 t
+
+  pub cipher-twice : (t : List ℕ) → cipher-of key iv (cipher-of key iv t) ≡ t
+  cipher-twice t = encrypted-twice 0 t
+
+-- ---- bytes stay bytes
+
+module _ (key iv : List ℕ) (k : Row 32 256 key) (v : IsBlock iv) where
+  pub drawn-good : (n : ℕ) → Good (moves forward n (start key iv Sealed))
+  drawn-good n = moves-good forward n (start key iv Sealed) (start-good key k iv Sealed v)
+
+  pub stream-block : (n : ℕ) → IsBlock (keystream key iv n)
+  stream-block n = z-block (moves forward n (start key iv Sealed)) (drawn-good n)
+
+  pub encrypted-below : (i : ℕ) (t : List ℕ) → Below 256 t → Below 256 (encrypted key iv i t)
+  unfolding encrypted
+  encrypted-below i [] e j = lit< tt
+  encrypted-below i (b ∷ t) e zero = ⊕-lt 8 b _ (e 0) (stream-block _ .below (i % 16))
+  encrypted-below i (b ∷ t) e (suc j) = encrypted-below (i + 1) t (λ m. e (suc m)) j
+
+  pub cipher-below : (t : List ℕ) → Below 256 t → Below 256 (cipher-of key iv t)
+  cipher-below t e = encrypted-below 0 t e

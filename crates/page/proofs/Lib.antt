@@ -1,0 +1,9 @@
+pub mod Phases
+pub mod Ciphertext
+pub mod Stages
+pub mod Tags
+pub mod WholeCalls
+pub mod Holding
+pub mod Answers
+pub mod Refusing
+pub mod Checking

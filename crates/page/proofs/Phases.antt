@@ -1,0 +1,26 @@
+-- The hash of a page goes by phases: data, text and the block of both lengths, each begun from where the one before settled. What settles is the
+-- hash of the padded bytes, and the padded bytes are whole blocks.
+use mathlib.Core.Path.{_≡_, _∙_}
+use mathlib.Core.List.{List, _++_}
+use Prim.Native.Nat.{ℕ, _%_}
+use native.Mathlib.Omega.{arith}
+use lib.ListN.{length, length-append}
+use Rattle.ghash.specs.Hash.{eat, hashFrom, ghash}
+use Rattle.ghash.proofs.Hashing.{hash-append, hash-one}
+use Rattle.digest.specs.Digest.{zeros, Sum, fresh, absorb, settled}
+use Rattle.digest.proofs.Settling.{padded-whole, settled-padded}
+use Rattle.page.specs.Page.{padded}
+
+-- the hash of data, and of a ciphertext behind it
+abbrev pub ad-sum : (h ad : List ℕ) → Sum
+ad-sum h d = absorb h (fresh zeros) 0 d
+
+abbrev pub text-sum : (h ad cipher : List ℕ) → Sum
+text-sum h d c = absorb h (fresh (settled h (ad-sum h d) (length d))) 0 c
+
+pub phases : (h d c l : List ℕ) → length l ≡ 16 → ghash h (padded d ++ padded c ++ l) ≡ eat h (settled h (text-sum h d c) (length c)) l
+phases h d c l k =
+    let both : length (padded d ++ padded c) % 16 ≡ 0 = rw (length-append (padded d) (padded c)) (omega (arith, padded-whole d, padded-whole c)) in
+    hash-append h zeros (padded d ++ padded c) l both
+    ∙ rw (hash-append h zeros (padded d) (padded c) (padded-whole d), settled-padded h zeros d, settled-padded h (hashFrom h zeros (padded d)) c)
+    (hash-one h _ l k)

@@ -1,0 +1,59 @@
+-- The tag that a session's finish gives is the page's: the hash that the session holds, settled, is GHASH of data and ciphertext, each padded,
+-- and one block more, of both lengths, ends it.
+use mathlib.Core.Path.{_≡_, sym, ap, ap₂, _∙_}
+use mathlib.Core.List.{List, _++_}
+use Prim.Native.Nat.{ℕ}
+use lib.ListN.{length, length-append}
+use Rattle.words.specs.Xor.{xors}
+use Rattle.words.specs.Bytes.{Row, IsBlock}
+use Rattle.words.proofs.Rows.{xors-row}
+use Rattle.ghash.specs.Hash.{eat}
+use Rattle.ghash.proofs.BigEndian.{bigs-long}
+use Rattle.ghash.proofs.Hashing.{hashFrom-block}
+use Rattle.digest.specs.Digest.{zeros, settled}
+use Rattle.digest.proofs.Kept.{zeros-block}
+use Rattle.session.specs.Sealing.{Sealing}
+use Rattle.session.specs.Calls.{closed, tag-of}
+use Rattle.page.specs.Page.{keystream, cipher-of, padded, lengths, tag-for, page-tag}
+use Rattle.page.proofs.Phases.{text-sum, phases}
+use Rattle.page.proofs.Ciphertext.{cipher-length, stream-block}
+use Rattle.page.proofs.Stages.{Stage, ad-of, text-of, sum-at, session-at, closed-at}
+
+lengths-block : (d t : ℕ) → length (lengths d t) ≡ 16
+lengths-block d t = simp (length-append, bigs-long)
+
+module _ (key iv : List ℕ) where
+  -- the tag of data and any ciphertext, by the hash of bytes one by one
+  pub tag-for-is : (d c : List ℕ)
+      → tag-for key iv d c
+      ≡ xors
+      (eat (keystream key iv 0)
+      (settled (keystream key iv 0) (text-sum (keystream key iv 0) d c) (length c))
+      (lengths (length d) (length c)))
+      (keystream key iv 1)
+  unfolding tag-for
+  tag-for-is d c =
+      ap (λ (y : List ℕ). xors y (keystream key iv 1))
+      (phases (keystream key iv 0) d c (lengths (length d) (length c)) (lengths-block (length d) (length c)))
+
+  closed-sum : (g : Stage) → closed (session-at key iv g) .sum ≡ text-sum (keystream key iv 0) (ad-of g) (cipher-of key iv (text-of g))
+  unfolding session-at sum-at
+  closed-sum g = ap (λ (s : Sealing). s .sum) (closed-at key iv g)
+
+  pub tag-at : (g : Stage) → tag-of (session-at key iv g) ≡ page-tag key iv (ad-of g) (text-of g)
+  unfolding tag-of session-at
+  tag-at g =
+      let h : List ℕ = keystream key iv 0 in
+      let c : List ℕ = cipher-of key iv (text-of g) in
+      let n : length (text-of g) ≡ length c = sym (cipher-length key iv (text-of g)) in
+      ap₂ (λ (y : List ℕ) (m : ℕ). xors (eat h y (lengths (length (ad-of g)) m)) (keystream key iv 1))
+      (ap₂ (settled h) (closed-sum g) n) n
+      ∙ sym (tag-for-is (ad-of g) c)
+
+-- a tag is a block
+pub tag-block : (key iv d c : List ℕ) → Row 32 256 key → IsBlock iv → IsBlock (tag-for key iv d c)
+unfolding tag-for
+tag-block key iv d c k v =
+    xors-row 8 16
+    (hashFrom-block (keystream key iv 0) zeros (padded d ++ padded c ++ lengths (length d) (length c)) zeros-block)
+    (stream-block key iv k v 1)

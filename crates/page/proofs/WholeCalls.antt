@@ -1,0 +1,117 @@
+-- Each call on a session that a list of calls reaches, as a whole: its number, its output and the session handed back. Begin, one piece of data,
+-- one of text and finish give the page's ciphertext and tag.
+use mathlib.Core.Path.{_≡_, refl, ap, _∙_}
+use mathlib.Core.List.{List, [], _++_}
+use mathlib.Core.Bool.{Bool, true, false, not}
+use Prim.Native.Nat.{ℕ, _+_, _≤_, _<_}
+use native.Mathlib.Omega.{arith}
+use borrow.Author.Tests.{le-ltb, lt-ltb, ltb-false}
+use lib.Dec.{ltb, lit<}
+use lib.ListN.{length, drop}
+use Rattle.scope.specs.Limits.{most-data, most-text}
+use Rattle.scope.specs.Refusals.{refuse, out-of-phase, too-long, short-output}
+use Rattle.start.proofs.Answers.{both-right}
+use Rattle.session.specs.Calls.{Given, begin-call, data-number, data-call, text-number, text-call, finish-number, finished, finish-call}
+use Rattle.page.specs.Page.{encrypted, cipher-of, page-tag}
+use Rattle.page.proofs.Stages.{Stage, Stage.taking-data, Stage.taking-text, ad-of, text-of, phase-at, session-at, begun-at, data-at, closed-at, text-taken-at, text-out-at}
+use Rattle.page.proofs.Tags.{tag-at}
+
+-- what an accepted call with refusals in its order says of the first of them
+pub refuse-none : (c : Bool) (n later : ℕ) → 0 < n → refuse c n later ≡ 0 → (c ≡ false) × (later ≡ 0)
+refuse-none true n later k e = absurd (omega arith)
+refuse-none false n later k e = (refl, e)
+
+phase-below : (g : Stage) → phase-at g < 2
+unfolding phase-at
+phase-below (taking-data d) = lit< tt
+phase-below (taking-text d t) = lit< tt
+
+module _ (key iv : List ℕ) where
+  pub begin-call-at : length key ≡ 32 → length iv ≡ 16
+      → begin-call key iv ≡ record { number = 0; out = []; session = session-at key iv (taking-data []) }
+  unfolding begin-call
+  begin-call-at k v = rw (both-right key iv k v, begun-at key iv)
+
+  -- ---- data
+
+  module _ (d p : List ℕ) where
+    pub data-number-at : length d + length p ≤ most-data → data-number (session-at key iv (taking-data d)) p ≡ 0
+    unfolding data-number session-at phase-at
+    data-number-at fits = rw (le-ltb most-data (length d + length p) fits)
+
+    pub data-call-at : length d + length p ≤ most-data
+        → data-call (session-at key iv (taking-data d)) p
+        ≡ record { number = 0; out = []; session = session-at key iv (taking-data (d ++ p)) }
+    unfolding data-call
+    data-call-at fits = rw (data-number-at fits, data-at key iv d p)
+
+  -- an accepted piece of data found the data open and kept to the limit
+  pub data-accepted : (g : Stage) (p : List ℕ) → data-number (session-at key iv g) p ≡ 0
+      → (g ≡ taking-data (ad-of g)) × (length (ad-of g) + length p ≤ most-data)
+  unfolding data-number session-at phase-at
+  data-accepted (taking-data d) p n =
+      (refl, ltb-false most-data (length d + length p) (refuse-none (ltb most-data (length d + length p)) too-long 0 (lit< tt) n .0))
+  data-accepted (taking-text d t) p n = absurd (omega arith)
+
+  -- ---- text
+
+  module _ (g : Stage) (p out : List ℕ) where
+    pub text-number-at : length (text-of g) + length p ≤ most-text → length p ≤ length out → text-number (session-at key iv g) p out ≡ 0
+    unfolding text-number session-at
+    text-number-at fits room =
+        rw (lt-ltb (phase-at g) 2 (phase-below g), le-ltb most-text (length (text-of g) + length p) fits, le-ltb (length out) (length p) room)
+
+    pub text-call-at : length (text-of g) + length p ≤ most-text → length p ≤ length out
+        → text-call (session-at key iv g) p out
+        ≡ record {
+          number = 0;
+          out = encrypted key iv (length (text-of g)) p ++ drop (length p) out;
+          session = session-at key iv (taking-text (ad-of g) (text-of g ++ p));
+        }
+    unfolding text-call
+    text-call-at fits room =
+        rw (
+          text-number-at fits room,
+          closed-at key iv g,
+          text-taken-at key iv (ad-of g) (text-of g) p,
+          text-out-at key iv (ad-of g) (text-of g) p,
+        )
+
+    -- an accepted piece of text kept to the limit and found room
+    pub text-accepted : text-number (session-at key iv g) p out ≡ 0
+        → (length (text-of g) + length p ≤ most-text) × (length p ≤ length out)
+    unfolding text-number session-at
+    text-accepted n =
+        let over : Bool = ltb most-text (length (text-of g) + length p) in
+        let small : Bool = ltb (length out) (length p) in
+        let a = refuse-none (not (ltb (phase-at g) 2)) out-of-phase (refuse over too-long (refuse small short-output 0)) (lit< tt) n in
+        let b = refuse-none over too-long (refuse small short-output 0) (lit< tt) (a .1) in
+        let c = refuse-none small short-output 0 (lit< tt) (b .1) in
+        (ltb-false most-text (length (text-of g) + length p) (b .0), ltb-false (length out) (length p) (c .0))
+
+  -- ---- finish
+
+  module _ (g : Stage) where
+    pub finish-number-at : finish-number (session-at key iv g) ≡ 0
+    unfolding finish-number session-at
+    finish-number-at = rw (lt-ltb (phase-at g) 2 (phase-below g))
+
+    pub finish-call-at : finish-call (session-at key iv g)
+        ≡ record { number = 0; out = page-tag key iv (ad-of g) (text-of g); session = finished (session-at key iv g) }
+    unfolding finish-call
+    finish-call-at = rw (finish-number-at, tag-at key iv g)
+
+-- ---- a page in one piece of data and one of text
+
+module _ (key iv d t out : List ℕ) (key-long : length key ≡ 32) (iv-long : length iv ≡ 16) (ad-fits : length d ≤ most-data)
+    (text-fits : length t ≤ most-text) (room : length t ≤ length out) where
+  pub page-data : data-call (begin-call key iv .session) d ≡ record { number = 0; out = []; session = session-at key iv (taking-data d) }
+  page-data = ap (λ (g : Given). data-call (g .session) d) (begin-call-at key iv key-long iv-long) ∙ data-call-at key iv [] d (omega arith)
+
+  pub page-text : text-call (data-call (begin-call key iv .session) d .session) t out
+      ≡ record { number = 0; out = cipher-of key iv t ++ drop (length t) out; session = session-at key iv (taking-text d t) }
+  page-text = ap (λ (g : Given). text-call (g .session) t out) page-data ∙ text-call-at key iv (taking-data d) t out (omega arith) room
+
+  pub page-finish : finish-call (text-call (data-call (begin-call key iv .session) d .session) t out .session)
+      ≡ record { number = 0; out = page-tag key iv d t; session = finished (session-at key iv (taking-text d t)) }
+  page-finish = ap (λ (g : Given). finish-call (g .session)) page-text ∙ finish-call-at key iv (taking-text d t)

@@ -1,0 +1,116 @@
+// Whole pages: seal and open.
+ghost use mathlib.Core.Path.{_≡_};
+ghost use Rattle.digest.specs.Digest.{zeros};
+ghost use Rattle.session.specs.Machine.{sealingOf};
+ghost use Rattle.page.specs.Calls.{seal-number, seal-out, seal-tag, open-number, open-out};
+ghost use Rattle.page.specs.Inner.{tag-over};
+use digest::Held;
+use session::Session;
+
+// A seal's answer, 0 or the refusal's number, and the tag (zeros on a refusal).
+pub struct Sealed {
+    pub answer: u64,
+    pub tag: [u8; 16],
+}
+
+fn refused(answer: u64) -> Sealed
+    ensures { λ r. ⌜ (r .answer ≡ answer) × (r .tag ≡ zeros) ⌝ }
+{
+    Sealed {
+        answer: answer,
+        tag: [0; 16],
+    }
+}
+
+// Seals a page: the ciphertext goes to the front of the output, as many bytes as the text has, and the tag comes back. Refused: 1 for the key's
+// length, 2 for the IV's, 3 for data over 65,535 bytes or text over 1,048,576, 4 for an output shorter than the text.
+pub fn seal(key: &[u8], iv: &[u8], ad: &[u8], text: &[u8], out: &mut [u8]) -> Sealed
+    ensures answer { λ r. ⌜ r .answer ≡ seal-number (now (key .entry)) (now (iv .entry)) (now (ad .entry)) (now (text .entry)) (now (out .entry)) ⌝ }
+    ensures tag { λ r. ⌜ r .tag ≡ seal-tag (now (key .entry)) (now (iv .entry)) (now (ad .entry)) (now (text .entry)) (now (out .entry)) ⌝ }
+    ensures out { λ _. ⌜ now (out .exit) ≡ seal-out (now (key .entry)) (now (iv .entry)) (now (ad .entry)) (now (text .entry)) (now (out .entry)) ⌝ }
+{
+    if key.len() != 32 {
+        return refused(scope::KEY_LENGTH);
+    }
+    if iv.len() != 16 {
+        return refused(scope::IV_LENGTH);
+    }
+    if ad.len() as u64 > scope::MOST_DATA {
+        return refused(scope::TOO_LONG);
+    }
+    if text.len() as u64 > scope::MOST_TEXT {
+        return refused(scope::TOO_LONG);
+    }
+    if out.len() < text.len() {
+        return refused(scope::SHORT_OUTPUT);
+    }
+    let b = session::begin(key, iv);
+    let begun = b.session;
+    let d = session::data(begun, ad);
+    let told = d.session;
+    let w = session::text(told, text, out);
+    let whole = w.session;
+    let f = session::finish(whole);
+    let tag = f.tag;
+    Sealed {
+        answer: scope::ACCEPTED,
+        tag: tag,
+    }
+}
+
+// The tag of a session whose data is in, over a ciphertext that is read and not written.
+fn tag_over(s: Session, cipher: &[u8]) -> [u8; 16]
+    ensures { λ r. ⌜ r ≡ tag-over (sealingOf s) (now (cipher .entry)) ⌝ }
+{
+    let h = s.h;
+    let d = s.held;
+    let y = digest::settle(h, d, s.ad);
+    let none = Held {
+        acc: y,
+        pending: [0; 16],
+    };
+    let e = digest::absorb(h, none, 0, cipher);
+    let mut u = s;
+    u.phase = 1;
+    u.text = cipher.len() as u64;
+    u.held = e;
+    let f = session::finish(u);
+    f.tag
+}
+
+// Opens a page: the text goes to the front of the output, as many bytes as the ciphertext has, if the tag is the one that the data and the
+// ciphertext have, which is known before a byte is written. Refused: 1 for the key's length, 2 for the IV's, 10 for the tag's, 3 for data over
+// 65,535 bytes or a ciphertext over 1,048,576, 4 for an output shorter than the ciphertext, 5 for any other tag.
+pub fn open(key: &[u8], iv: &[u8], ad: &[u8], cipher: &[u8], tag: &[u8], out: &mut [u8]) -> u64
+    ensures answer { λ r. ⌜ r ≡ open-number (now (key .entry)) (now (iv .entry)) (now (ad .entry)) (now (cipher .entry)) (now (tag .entry)) (now (out .entry)) ⌝ }
+    ensures out { λ _. ⌜ now (out .exit) ≡ open-out (now (key .entry)) (now (iv .entry)) (now (ad .entry)) (now (cipher .entry)) (now (tag .entry)) (now (out .entry)) ⌝ }
+{
+    if key.len() != 32 {
+        return scope::KEY_LENGTH;
+    }
+    if iv.len() != 16 {
+        return scope::IV_LENGTH;
+    }
+    if tag.len() != 16 {
+        return scope::TAG_LENGTH;
+    }
+    if ad.len() as u64 > scope::MOST_DATA {
+        return scope::TOO_LONG;
+    }
+    if cipher.len() as u64 > scope::MOST_TEXT {
+        return scope::TOO_LONG;
+    }
+    if out.len() < cipher.len() {
+        return scope::SHORT_OUTPUT;
+    }
+    let b = session::begin(key, iv);
+    let begun = b.session;
+    let d = session::data(begun, ad);
+    let told = d.session;
+    let expected = tag_over(told, cipher);
+    if start::same(words::load(tag, 0), words::load(&expected, 0)) {
+        session::text(told, cipher, out);
+        return scope::ACCEPTED;
+    }
+    scope::BAD_TAG
+}

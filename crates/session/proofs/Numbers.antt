@@ -1,0 +1,104 @@
+-- The numbers of the calls by what they find, and the lengths that finish hashes.
+use mathlib.Core.Path.{_≡_, sym, ap, _∙_}
+use mathlib.Core.List.{List, _++_}
+use Prim.Native.Nat.{ℕ, suc, _+_, _*_, _/_, _%_, _^_, _≤_, _<_}
+use native.Mathlib.Omega.{arith}
+use borrow.Author.Tests.{eq-eqb, ne-eqb, lt-ltb, le-ltb}
+use lib.ListN.{length, drop}
+use Rattle.scope.specs.Limits.{most-data, most-text}
+use Rattle.ghash.specs.Hash.{bigs}
+use Rattle.ghash.proofs.BigEndian.{bigs-append}
+use Rattle.session.specs.declared.Session.{Session}
+use Rattle.session.specs.declared.Said.{Said}
+use Rattle.session.specs.Sealing.{Sealing}
+use Rattle.session.specs.Machine.{sealingOf, Says}
+use Rattle.digest.specs.Digest.{zeros}
+use Rattle.session.specs.Calls.{data-number, data-taken, data-call, closed, text-taken, text-out, text-number, text-call, finish-number, tag-of, finished, finish-call}
+
+module _ (s : Sealing) (p : List ℕ) where
+  pub data-late : ¬ (s .phase ≡ 0) → data-number s p ≡ 7
+  unfolding data-number
+  data-late h = rw (ne-eqb (s .phase) 0 h)
+
+  pub data-over : s .phase ≡ 0 → most-data < s .ad + length p → data-number s p ≡ 3
+  unfolding data-number
+  data-over h k = rw (eq-eqb (s .phase) 0 h, lt-ltb most-data (s .ad + length p) k)
+
+  pub data-fits : s .phase ≡ 0 → s .ad + length p ≤ most-data → data-number s p ≡ 0
+  unfolding data-number
+  data-fits h k = rw (eq-eqb (s .phase) 0 h, le-ltb most-data (s .ad + length p) k)
+
+module _ (s : Sealing) (p out : List ℕ) where
+  pub text-late : 2 ≤ s .phase → text-number s p out ≡ 7
+  unfolding text-number
+  text-late h = rw (le-ltb (s .phase) 2 h)
+
+  pub text-over : s .phase < 2 → most-text < s .text + length p → text-number s p out ≡ 3
+  unfolding text-number
+  text-over h k = rw (lt-ltb (s .phase) 2 h, lt-ltb most-text (s .text + length p) k)
+
+  pub text-short : s .phase < 2 → s .text + length p ≤ most-text → length out < length p → text-number s p out ≡ 4
+  unfolding text-number
+  text-short h k r = rw (lt-ltb (s .phase) 2 h, le-ltb most-text (s .text + length p) k, lt-ltb (length out) (length p) r)
+
+  pub text-fits : s .phase < 2 → s .text + length p ≤ most-text → length p ≤ length out → text-number s p out ≡ 0
+  unfolding text-number
+  text-fits h k r = rw (lt-ltb (s .phase) 2 h, le-ltb most-text (s .text + length p) k, le-ltb (length out) (length p) r)
+
+pub finish-late : (s : Sealing) → 2 ≤ s .phase → finish-number s ≡ 7
+unfolding finish-number
+finish-late s h = rw (le-ltb (s .phase) 2 h)
+
+pub finish-due : (s : Sealing) → s .phase < 2 → finish-number s ≡ 0
+unfolding finish-number
+finish-due s h = rw (lt-ltb (s .phase) 2 h)
+
+-- eight bytes hold a length in bits modulo 2^64
+pub bits-low : (n : ℕ) → bigs 8 (n % 0x2000000000000000 * 8) ≡ bigs 8 (n * 8)
+unfolding bigs
+bits-low n =
+    let e : n * 8 ≡ n / 0x2000000000000000 * 256 ^ 8 + n % 0x2000000000000000 * 8 = omega arith in
+    sym (ap (bigs 8) e ∙ bigs-append 0 8 (n / 0x2000000000000000) (n % 0x2000000000000000 * 8) (omega arith))
+
+-- ---- what the calls then give
+
+module _ (s : Sealing) (p : List ℕ) where
+  pub data-refused : (n : ℕ) → data-number s p ≡ suc n → data-call s p .session ≡ s
+  unfolding data-call
+  data-refused n e = rw (e, ne-eqb (suc n) 0 (λ z. omega arith))
+
+  pub data-accepted : data-number s p ≡ 0 → data-call s p .session ≡ data-taken s p
+  unfolding data-call
+  data-accepted e = rw e
+
+-- the two things that a text call ensures
+abbrev pub Answered : (s : Sealing) (p out : List ℕ) → Said → (after : List ℕ) → Type 0
+Answered s p out r after = Says (text-call s p out) r × (after ≡ text-call s p out .out)
+
+module _ (s : Session) (p out : List ℕ) where
+  pub text-refused : (n : ℕ) → text-number (sealingOf s) p out ≡ suc n → Answered (sealingOf s) p out (record { answer = suc n; session = s }) out
+  unfolding text-call
+  text-refused n e = (record { number = sym e; session = rw (e, ne-eqb (suc n) 0 (λ z. omega arith)) }, rw (e, ne-eqb (suc n) 0 (λ z. omega arith)))
+
+  pub text-accepted : (r : Session) (after : List ℕ) → text-number (sealingOf s) p out ≡ 0 → sealingOf r ≡ text-taken (closed (sealingOf s)) p
+      → after ≡ text-out (closed (sealingOf s)) p ++ drop (length p) out → Answered (sealingOf s) p out (record { answer = 0; session = r }) after
+  unfolding text-call
+  text-accepted r after e er eo = (record { number = sym e; session = er ∙ rw e }, eo ∙ rw e)
+
+module _ (s : Sealing) where
+  pub finish-zeros : finish-number s ≡ 7 → finish-call s .out ≡ zeros
+  unfolding finish-call
+  finish-zeros e = rw e
+
+  pub finish-kept : finish-number s ≡ 7 → finish-call s .session ≡ s
+  unfolding finish-call
+  finish-kept e = rw e
+
+  pub finish-tag : finish-number s ≡ 0 → finish-call s .out ≡ tag-of s
+  unfolding finish-call
+  finish-tag e = rw e
+
+  pub finish-ended : finish-number s ≡ 0 → finish-call s .session
+      ≡ record { phase = 2; ad = s .ad; text = s .text; registers = s .registers; h = s .h; pad = s .pad; current = s .current; sum = s .sum }
+  unfolding finish-call finished
+  finish-ended e = rw e

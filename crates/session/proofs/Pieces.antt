@@ -1,0 +1,137 @@
+-- A piece after a piece is both as one: text and data go byte by byte, so that each law is an induction over the first piece.
+use mathlib.Core.Path.{_≡_, refl, sym, ap, _∙_}
+use mathlib.Core.Bool.{Bool, true, false}
+use mathlib.Core.List.{List, [], _∷_, _++_}
+use Prim.Native.Nat.{ℕ, suc, _+_}
+use native.Mathlib.Nat.{add-zero}
+use native.Mathlib.Decide.{ℕ-discrete}
+use native.Mathlib.Omega.{arith}
+use borrow.Author.Tests.{eq-eqb, ne-eqb}
+use lib.Dec.{eqb}
+use lib.ListN.{length, length-append}
+use Rattle.scope.specs.Refusals.{pick}
+use Rattle.digest.specs.Digest.{absorb, settled}
+use Rattle.digest.proofs.Pieces.{absorb-append}
+use Rattle.session.specs.Sealing.{Sealing}
+use Rattle.session.specs.Inner.{into-text}
+use Rattle.session.specs.Calls.{data-taken, closed, byte-out, byte-taken, text-taken, text-out}
+
+-- ---- text
+
+pub text-none : (s : Sealing) → text-taken s [] ≡ s
+unfolding text-taken
+text-none s = refl
+
+pub out-none : (s : Sealing) → text-out s [] ≡ []
+unfolding text-out
+out-none s = refl
+
+pub text-append : (s : Sealing) (p q : List ℕ) → text-taken s (p ++ q) ≡ text-taken (text-taken s p) q
+unfolding text-taken
+text-append s [] q = refl
+text-append s (b ∷ p) q = text-append (byte-taken s b) p q
+
+pub out-append : (s : Sealing) (p q : List ℕ) → text-out s (p ++ q) ≡ text-out s p ++ text-out (text-taken s p) q
+unfolding text-taken text-out
+out-append s [] q = refl
+out-append s (b ∷ p) q = ap (λ (l : List ℕ). byte-out s b ∷ l) (out-append (byte-taken s b) p q)
+
+pub out-length : (s : Sealing) (p : List ℕ) → length (text-out s p) ≡ length p
+unfolding text-out
+out-length s [] = refl
+out-length s (b ∷ p) = ap suc (out-length (byte-taken s b) p)
+
+pub text-count : (s : Sealing) (p : List ℕ) → text-taken s p .text ≡ s .text + length p
+unfolding text-taken byte-taken
+text-count s [] = sym (add-zero (s .text))
+text-count s (b ∷ p) = text-count (byte-taken s b) p ∙ omega arith
+
+-- what no byte changes, no text does
+pub text-keeps {ℓ} : {A : Type ℓ} (f : Sealing → A) → ((s : Sealing) (b : ℕ) → f (byte-taken s b) ≡ f s) → (s : Sealing) (p : List ℕ)
+    → f (text-taken s p) ≡ f s
+unfolding text-taken
+text-keeps f h s [] = refl
+text-keeps f h s (b ∷ p) = text-keeps f h (byte-taken s b) p ∙ h s b
+
+pub text-phase : (s : Sealing) (p : List ℕ) → text-taken s p .phase ≡ s .phase
+unfolding byte-taken
+text-phase = text-keeps (λ s. s .phase) (λ s b. refl)
+
+pub text-ad : (s : Sealing) (p : List ℕ) → text-taken s p .ad ≡ s .ad
+unfolding byte-taken
+text-ad = text-keeps (λ s. s .ad) (λ s b. refl)
+
+pub text-h : (s : Sealing) (p : List ℕ) → text-taken s p .h ≡ s .h
+unfolding byte-taken
+text-h = text-keeps (λ s. s .h) (λ s b. refl)
+
+pub text-pad : (s : Sealing) (p : List ℕ) → text-taken s p .pad ≡ s .pad
+unfolding byte-taken
+text-pad = text-keeps (λ s. s .pad) (λ s b. refl)
+
+-- the hash goes as the digest of the ciphertext does
+pub text-sum : (s : Sealing) (p : List ℕ) → text-taken s p .sum ≡ absorb (s .h) (s .sum) (s .text) (text-out s p)
+unfolding text-taken text-out byte-taken absorb
+text-sum s [] = refl
+text-sum s (b ∷ p) = text-sum (byte-taken s b) p
+
+-- ---- the data closed
+
+module _ (s : Sealing) where
+  -- what closing does not change
+  closed-keeps {ℓ} : {A : Type ℓ} (f : Sealing → A) → f (into-text s (settled (s .h) (s .sum) (s .ad))) ≡ f s → f (closed s) ≡ f s
+  unfolding closed
+  closed-keeps f e = go (eqb (s .phase) 0)
+    where
+      go : (t : Bool) → f (pick t (into-text s (settled (s .h) (s .sum) (s .ad))) s) ≡ f s
+      go true = e
+      go false = refl
+
+  pub closed-text : closed s .text ≡ s .text
+  closed-text = closed-keeps (λ u. u .text) refl
+
+  pub closed-h : closed s .h ≡ s .h
+  closed-h = closed-keeps (λ u. u .h) refl
+
+  pub closed-already : ¬ (s .phase ≡ 0) → s ≡ closed s
+  unfolding closed
+  closed-already h = rw (ne-eqb (s .phase) 0 h)
+
+  pub closed-now : s .phase ≡ 0 → into-text s (settled (s .h) (s .sum) (s .ad)) ≡ closed s
+  unfolding closed
+  closed-now h = rw (eq-eqb (s .phase) 0 h)
+
+  pub closed-phase : ¬ (closed s .phase ≡ 0)
+  closed-phase = go (ℕ-discrete (s .phase) 0)
+    where
+      go : Dec (s .phase ≡ 0) → ¬ (closed s .phase ≡ 0)
+      go (yes e) = rw (← closed-now e) (λ z. omega (arith, z))
+      go (no e) = rw (← closed-already e) e
+
+-- two texts, each of which closes the data, are one
+module _ (s : Sealing) (p q : List ℕ) where
+  closed-since : closed (text-taken (closed s) p) ≡ text-taken (closed s) p
+  closed-since = sym (closed-already (text-taken (closed s) p) (rw (text-phase (closed s) p) (closed-phase s)))
+
+  pub text-twice : text-taken (closed (text-taken (closed s) p)) q ≡ text-taken (closed s) (p ++ q)
+  text-twice = ap (λ (u : Sealing). text-taken u q) closed-since ∙ sym (text-append (closed s) p q)
+
+  pub out-twice : text-out (closed s) p ++ text-out (closed (text-taken (closed s) p)) q ≡ text-out (closed s) (p ++ q)
+  out-twice = ap (λ (u : Sealing). text-out (closed s) p ++ text-out u q) closed-since ∙ sym (out-append (closed s) p q)
+
+-- ---- data
+
+pub data-append : (s : Sealing) (p q : List ℕ) → data-taken s (p ++ q) ≡ data-taken (data-taken s p) q
+unfolding data-taken
+data-append s p q =
+    let n : s .ad + length (p ++ q) ≡ s .ad + length p + length q = omega (arith, length-append p q) in
+    λ i. record {
+      phase = 0;
+      ad = n i;
+      text = s .text;
+      registers = s .registers;
+      h = s .h;
+      pad = s .pad;
+      current = s .current;
+      sum = sym (absorb-append (s .h) (s .sum) (s .ad) p q) i;
+    }

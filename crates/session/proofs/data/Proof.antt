@@ -1,0 +1,63 @@
+-- `session::data` meets its contract, by the phase and the limit.
+use Prim.Native.Nat.{_+_}
+use mathlib.Core.Path.{sym, _∙_}
+use native.Mathlib.Omega.{arith}
+use lib.ListN.{length}
+use denote.Ref.{now}
+use Rattle.words.specs.Machine.{bytesOf}
+use Rattle.ghash.specs.Machine.{bytesOfElement}
+use Rattle.cipher.specs.Machine.{registersOf}
+use Rattle.session.specs.Machine.{sealingOf}
+use Rattle.session.specs.Calls.{data-call, data-taken}
+use Rattle.session.proofs.Numbers.{data-late, data-over, data-fits, data-refused, data-accepted}
+use borrow.Author.Needs.{needs}
+use Rattle.session.proofs.data.Statement.{statement}
+use Rattle.session.proofs.data.Tie as tie
+
+returns : tie.Need-returns
+unfolding data-call
+returns c =
+    let a = c .before .before .before .args in
+    let s = sealingOf (a .s) in
+    let e = data-late s (now (a .piece)) (c .if1 .taken) in
+    record { number = sym e; session = sym (data-refused s (now (a .piece)) 6 e) }
+
+returns-2 : tie.Need-returns-2
+unfolding data-call
+returns-2 c =
+    let a = c .before .before .before .before .args in
+    let s = sealingOf (a .s) in
+    let e = data-over s (now (a .piece)) (c .before .if1 .left) (omega arith) in
+    record { number = sym e; session = sym (data-refused s (now (a .piece)) 2 e) }
+
+returns-3 : tie.Need-returns-3
+unfolding data-call
+returns-3 c =
+    let a = c .before .before .before .before .before .args in
+    let s = sealingOf (a .s) in
+    let e = data-over s (now (a .piece)) (c .before .before .if1 .left) (omega arith) in
+    record { number = sym e; session = sym (data-refused s (now (a .piece)) 2 e) }
+
+returns-4 : tie.Need-returns-4
+unfolding data-call data-taken
+returns-4 c =
+    let a = c .before .before .before .before .before .before .before .before .args in
+    let p = c .before .before .before .before .before .if1 .left in
+    let e = data-fits (sealingOf (a .s)) (now (a .piece)) p (omega arith) in
+    record {
+      number = sym e;
+      session = (λ i. record {
+        phase = p i;
+        ad = a .s .ad + length (now (a .piece));
+        text = a .s .text;
+        registers = registersOf (a .s .state);
+        h = bytesOfElement (a .s .h);
+        pad = bytesOf (a .s .pad);
+        current = bytesOf (a .s .current);
+        sum = c .absorb .ensures i;
+      })
+          ∙ sym (data-accepted (sealingOf (a .s)) (now (a .piece)) e);
+    }
+
+pub data-spec : {M : Type 1} → statement M
+data-spec = tie.close (tie.spec returns returns-2 returns-3 (λ c κs. search needs) (λ c. search needs) returns-4)

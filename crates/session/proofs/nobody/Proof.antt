@@ -1,0 +1,25 @@
+-- `session::nobody` meets its contract.
+use mathlib.Core.Path.{ap, _∙_}
+use Rattle.cipher.specs.Machine.{registersOf}
+use Rattle.digest.specs.Digest.{fresh}
+use borrow.Author.Needs.{needs}
+use Rattle.session.proofs.nobody.Statement.{statement}
+use Rattle.session.proofs.nobody.Tie as tie
+
+returns : tie.Need-returns
+returns c =
+    let z = c .before .before .zero-block .ensures in
+    let n = c .before .zero-element .ensures in
+    λ i. record {
+      phase = 2;
+      ad = 0;
+      text = 0;
+      registers = registersOf (c .before .before .before .args .blank);
+      h = n i;
+      pad = z i;
+      current = z i;
+      sum = (c .fresh .ensures ∙ ap fresh n) i;
+    }
+
+pub nobody-spec : {M : Type 1} → statement M
+nobody-spec = tie.close (tie.spec (λ c κs. search needs) (λ c κs. search needs) (λ c κs. search needs) returns)

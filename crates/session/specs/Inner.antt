@@ -1,0 +1,104 @@
+-- What the inner functions of the text call do and ask: a piece goes by parts of blocks and by whole blocks, and not by bytes. No call's
+-- contract names anything here. p and o are the lengths of the piece and of the output, `from` and `to` the places of the part in both.
+use Prim.Native.Nat.{ℕ, _+_, _-_, _%_, _^_, _<_, _≤_}
+use mathlib.Core.Path.{_≡_}
+use mathlib.Core.List.{List}
+use lib.Dec.{eqb}
+use lib.ListN.{length, drop}
+use lib.Seq.{sets}
+use Rattle.scope.specs.Refusals.{pick}
+use Rattle.words.specs.Xor.{xors}
+use Rattle.words.specs.Machine.{bytesOf}
+use Rattle.aes.specs.Field.{sub}
+use Rattle.aes.specs.Tables.{Holds}
+use Rattle.ghash.specs.Hash.{big, eat}
+use Rattle.ghash.specs.Machine.{Tables}
+use Rattle.cipher.specs.Registers.{Registers}
+use Rattle.cipher.specs.Step.{z, step}
+use Rattle.cipher.specs.Machine.{registersOf}
+use Rattle.digest.specs.Digest.{Sum, fresh}
+use Rattle.digest.specs.Machine.{sumOf}
+use Rattle.session.specs.declared.Lane.{Lane}
+use Rattle.session.specs.Sealing.{Sealing}
+use Rattle.session.specs.Calls.{byte-current}
+
+-- the data closed, with their hash y
+abbrev pub into-text : Sealing → (y : List ℕ) → Sealing
+into-text s y =
+    record { phase = 1; ad = s .ad; text = s .text; registers = s .registers; h = s .h; pad = s .pad; current = s .current; sum = fresh y }
+
+-- ---- bytes of one block
+
+-- a block is drawn where the next byte is the first of one
+unfoldable pub ready : Sealing → Sealing
+ready s =
+    record {
+      phase = s .phase;
+      ad = s .ad;
+      text = s .text;
+      registers = pick (eqb (s .text % 16) 0) (step (s .registers)) (s .registers);
+      h = s .h;
+      pad = s .pad;
+      current = byte-current s;
+      sum = s .sum;
+    }
+
+-- text under the block in use
+abbrev pub masked : Sealing → List ℕ → List ℕ
+masked s p = xors p (drop (s .text % 16) (s .current))
+
+-- a session at another length and hash
+abbrev pub counted : Sealing → ℕ → Sum → Sealing
+counted s n y =
+    record { phase = s .phase; ad = s .ad; text = n; registers = s .registers; h = s .h; pad = s .pad; current = s .current; sum = y }
+
+-- m bytes more are held, which makes them q
+abbrev pub holding : Sealing → List ℕ → ℕ → Sealing
+holding s q m = counted s (s .text + m) (record { hash = s .sum .hash; pending = q })
+
+-- the same where they are a whole block, which is sent on
+abbrev pub sent-on : Sealing → List ℕ → ℕ → Sealing
+sent-on s q m = counted s (s .text + m) (fresh (eat (s .h) (s .sum .hash) q))
+
+-- text of one block held
+unfoldable pub held : Sealing → List ℕ → Sealing
+held s p = holding s (sets (s .sum .pending) (s .text % 16) (masked s p)) (length p)
+
+-- ---- whole blocks
+
+-- what they move on
+pub record Track : Type 0 where
+  pub registers : Registers
+  pub current : List ℕ
+  pub sum : Sum
+
+abbrev pub trackOf : Lane → Track
+trackOf l = record { registers = registersOf (l .state); current = bytesOf (l .z); sum = sumOf (l .held) }
+
+-- a whole block of text
+abbrev pub block-taken : (h : List ℕ) → Track → (p : List ℕ) → Track
+block-taken h l p =
+    record { registers = step (l .registers); current = z (l .registers); sum = fresh (eat h (l .sum .hash) (xors p (z (l .registers)))) }
+
+-- ---- what is asked
+
+-- a part of the piece, at a length of text so far: it stands in both, and the length with it stays a u64
+pub record Part (text p o from to : ℕ) : Type 0 where
+  pub ordered : from ≤ to
+  pub read : to ≤ p
+  pub room : to ≤ o
+  pub counts : text + (to - from) < 2 ^ 64
+
+-- whole blocks, from the start of one
+pub record Blocks (text p o from to : ℕ) : Type 0 where
+  pub part : Part text p o from to
+  pub start : text % 16 ≡ 0
+  pub whole : (to - from) % 16 ≡ 0
+
+-- the lent tables: the S-box, and the multiples of H
+abbrev pub Multiples : (h table : List ℕ) → Type 0
+Multiples h table = Tables (big h) table
+
+pub record Lent (h sbox table : List ℕ) : Type 0 where
+  pub box : Holds sub sbox
+  pub multiples : Multiples h table

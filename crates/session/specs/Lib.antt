@@ -1,0 +1,5 @@
+pub mod Sealing
+pub mod Calls
+pub mod Machine
+pub mod Inner
+pub mod Begun

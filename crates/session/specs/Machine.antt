@@ -1,0 +1,37 @@
+-- How the code holds a session, and what its calls answer, in the terms of the definitions.
+use Prim.Native.Nat.{ℕ}
+use mathlib.Core.Path.{_≡_}
+use mathlib.Core.List.{List}
+use Rattle.words.specs.Machine.{bytesOf}
+use Rattle.ghash.specs.Machine.{bytesOfElement}
+use Rattle.cipher.specs.Machine.{registersOf}
+use Rattle.digest.specs.Machine.{sumOf}
+use Rattle.session.specs.declared.Session.{Session}
+use Rattle.session.specs.declared.Said.{Said}
+use Rattle.session.specs.declared.Finished.{Finished}
+use Rattle.session.specs.Sealing.{Sealing}
+use Rattle.session.specs.Calls.{Given}
+
+abbrev pub sealingOf : Session → Sealing
+sealingOf s =
+    record {
+      phase = s .phase;
+      ad = s .ad;
+      text = s .text;
+      registers = registersOf (s .state);
+      h = bytesOfElement (s .h);
+      pad = bytesOf (s .pad);
+      current = bytesOf (s .current);
+      sum = sumOf (s .held);
+    }
+
+-- a call's number and session
+pub record Says (g : Given) (r : Said) : Type 0 where
+  pub number : r .answer ≡ g .number
+  pub session : sealingOf (r .session) ≡ g .session
+
+-- finish's, with the tag
+pub record Finishes (g : Given) (r : Finished) : Type 0 where
+  pub number : r .answer ≡ g .number
+  pub tag : r .tag ≡ g .out
+  pub session : sealingOf (r .session) ≡ g .session

@@ -1,0 +1,27 @@
+-- A session (document 01, "Tag arithmetic" and "Sessions and parking"): what is kept between its calls.
+use Prim.Native.Nat.{ℕ, _+_, _/_}
+use mathlib.Core.List.{List}
+use Rattle.cipher.specs.Registers.{Registers}
+use Rattle.digest.specs.Digest.{Sum}
+
+pub record Sealing : Type 0 where
+  -- 0 data, 1 text, 2 finished
+  pub phase : ℕ
+  -- bytes of associated data and of text so far
+  pub ad : ℕ
+  pub text : ℕ
+  pub registers : Registers
+  -- H, the end pad and the keystream block drawn last
+  pub h : List ℕ
+  pub pad : List ℕ
+  pub current : List ℕ
+  -- the hash so far, and the bytes not yet hashed
+  pub sum : Sum
+
+-- blocks that hold n bytes
+abbrev pub ceil16 : ℕ → ℕ
+ceil16 n = (n + 15) / 16
+
+-- blocks drawn at a text length
+abbrev pub drawn-at : ℕ → ℕ
+drawn-at n = 2 + ceil16 n

@@ -1,0 +1,4 @@
+pub mod Copying
+pub mod Suspending
+pub mod Resuming
+pub mod RoundTrip

@@ -1,0 +1,197 @@
+// A session suspended into a block of 512 bytes, and resumed from it: document 01's park and take up.
+ghost use mathlib.Core.Path.{_≡_};
+ghost use mathlib.Core.List.{_++_};
+ghost use Prim.Native.Nat.{_≤_};
+ghost use lib.ListN.{length, drop};
+ghost use Rattle.scope.specs.Limits.{most-text};
+ghost use Rattle.words.specs.Bytes.{little};
+ghost use Rattle.session.specs.Sealing.{drawn-at};
+ghost use Rattle.session.specs.Machine.{sealingOf, Says};
+ghost use Rattle.kept.specs.Machine.{keptOf};
+ghost use Rattle.suspend.specs.Calls;
+ghost use Rattle.suspend.specs.Calls.{suspend-call, turned-away, resume-call};
+ghost use Rattle.suspend.specs.Machine.{Resumes};
+use cipher::State;
+use digest::Held;
+use ghash::Element;
+use kept::Fields;
+use lfsr::Lfsr;
+use session::Said;
+use session::Session;
+use start::Mode;
+use start::Traced;
+use words::Block;
+
+// A block to the front of an output. Every other byte stays.
+fn copy(block: [u8; 512], out: &mut [u8])
+    requires { ⌜ 512 ≤ length (now out) ⌝ }
+    ensures { λ _. ⌜ now (out .exit) ≡ block ++ drop 512 (now (out .entry)) ⌝ }
+{
+    let mut i: usize = 0;
+    while i < 512 {
+        out[i] = block[i];
+        i += 1;
+    }
+}
+
+// Document 01's park: writes the session's block and hands the session back as it was. Refused: 7 after finish, 4 where the output has less
+// than 512 bytes.
+pub fn suspend(s: Session, out: &mut [u8]) -> Said
+    ensures { λ r. ⌜ Says (suspend-call (sealingOf s) (now (out .entry))) r ⌝ }
+    ensures { λ _. ⌜ now (out .exit) ≡ suspend-call (sealingOf s) (now (out .entry)) .out ⌝ }
+{
+    if s.phase >= 2 {
+        return Said {
+            answer: scope::OUT_OF_PHASE,
+            session: s,
+        };
+    }
+    if out.len() < 512 {
+        return Said {
+            answer: scope::SHORT_OUTPUT,
+            session: s,
+        };
+    }
+    let state = s.state;
+    let held = s.held;
+    let block = kept::block_of(Fields {
+        phase: s.phase,
+        ad: s.ad,
+        text: s.text,
+        state: state,
+        held: held,
+    });
+    copy(block, out);
+    Said {
+        answer: scope::ACCEPTED,
+        session: s,
+    }
+}
+
+// The answer to a resume: 0 or the refusal's number, the IV, and the session. Where it is refused, the IV is zeros and the session takes no call.
+pub struct Resumed {
+    pub answer: u64,
+    pub iv: [u8; 16],
+    pub session: Session,
+}
+
+fn refused(n: u64) -> Resumed
+    ensures { λ r. ⌜ Resumes (turned-away n) r ⌝ }
+{
+    let zero = Block {
+        w0: 0,
+        w1: 0,
+        w2: 0,
+        w3: 0,
+    };
+    let none = Element { hi: 0, lo: 0 };
+    let l = Lfsr {
+        a: [0; 16],
+        b: [0; 16],
+    };
+    let state = State {
+        lfsr: l,
+        r1: zero,
+        r2: zero,
+        r3: zero,
+    };
+    let held = Held {
+        acc: none,
+        pending: [0; 16],
+    };
+    let session = Session {
+        phase: 2,
+        ad: 0,
+        text: 0,
+        state: state,
+        h: none,
+        pad: zero,
+        current: zero,
+        held: held,
+    };
+    Resumed {
+        answer: n,
+        iv: [0; 16],
+        session: session,
+    }
+}
+
+// The IV's bytes from its two halves.
+fn iv_bytes(lo: u64, hi: u64) -> [u8; 16]
+    ensures { λ r. ⌜ r ≡ little 8 lo ++ little 8 hi ⌝ }
+{
+    let mut r = [0u8; 16];
+    fields::put(&mut r, 0, 8, lo);
+    fields::put(&mut r, 8, 8, hi);
+    r
+}
+
+// The session of what was kept: H and the end pad are the first two blocks after the start, the current block that of the step before.
+fn revived(key: &[u8], iv: [u8; 16], k: Fields) -> Session
+    requires { ⌜ length (now key) ≡ 32 ⌝ }
+    ensures { λ r. ⌜ sealingOf r ≡ Calls.revived (now (key .entry)) iv (keptOf k) ⌝ }
+{
+    let state = k.state;
+    let held = k.held;
+    let begun = start::start(key, &iv, Mode::Sealed);
+    let s0 = begun.state;
+    let sbox = aes::sbox();
+    let w0 = cipher::forward(s0, &sbox);
+    let z0 = w0.z;
+    let s1 = w0.state;
+    let w1 = cipher::forward(s1, &sbox);
+    let pad = w1.z;
+    let inverse = aes::inverse_sbox();
+    let before = cipher::backward(state, &inverse);
+    let current = before.z;
+    let h = ghash::from_block(z0);
+    Session {
+        phase: k.phase,
+        ad: k.ad,
+        text: k.text,
+        state: state,
+        h: h,
+        pad: pad,
+        current: current,
+        held: held,
+    }
+}
+
+// Blocks drawn at a text length.
+fn drawn(text: u64) -> u64
+    requires { ⌜ text ≤ most-text ⌝ }
+    ensures { λ r. ⌜ r ≡ drawn-at text ⌝ }
+{
+    2 + (text + 15) / 16
+}
+
+// Document 01's take up: the session that a block was written for, and its IV. Refused: 1 for the key's length, 8 for a block that breaks a
+// layout rule, 6 where no IV leads to its state in sealed mode.
+pub fn resume(key: &[u8], block: &[u8]) -> Resumed
+    ensures { λ r. ⌜ Resumes (resume-call (now (key .entry)) (now (block .entry))) r ⌝ }
+{
+    if key.len() != 32 {
+        return refused(scope::KEY_LENGTH);
+    }
+    if !layout::well_laid(block) {
+        return refused(scope::BAD_BLOCK);
+    }
+    let k = kept::read(block);
+    let state = k.state;
+    let Traced::Found(o) = start::trace(state, key, drawn(k.text)) else {
+        return refused(scope::NO_ORIGIN);
+    };
+    let mode = o.mode;
+    match mode {
+        Mode::Plain => refused(scope::NO_ORIGIN),
+        Mode::Sealed => {
+            let iv = iv_bytes(o.lo, o.hi);
+            let session = revived(key, iv, k);
+            Resumed {
+                answer: scope::ACCEPTED,
+                iv: iv,
+                session: session,
+            }
+        }
+    }
+}
