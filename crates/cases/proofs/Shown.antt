@@ -9,7 +9,7 @@ use lib.Seq.{drop-at}
 use Rattle.words.specs.Xor.{_⊕_, xors}
 use Rattle.words.specs.Bytes.{Row, IsBlock, little, number, littles, numbers}
 use Rattle.words.specs.Sums.{sums, _⊞_}
-use Rattle.words.proofs.Rows.{row-drop, xors-zeros}
+use Rattle.words.proofs.Rows.{row-drop, xors-comm, xors-zeros}
 use Rattle.words.proofs.Bytes.{littles-numbers, numbers-littles}
 use Rattle.words.proofs.Sums.{words-of}
 use Rattle.words.proofs.Blocks.{four}
@@ -18,6 +18,11 @@ use Rattle.lfsr.specs.Clock.{clock, clocks}
 use Rattle.lfsr.specs.Unclock.{shl, spread, solve, oldA, oldB, unclock}
 use Rattle.aes.specs.Field.{xtime, mulBits, gmul, square, powOnes, inverse, rotated, affine, sub}
 use Rattle.aes.specs.Round.{pick, dot, mixBy, round}
+use Rattle.ghash.specs.Hash.{big, bigs, _•_, eat, eats, blocks, hashFrom}
+use Rattle.ghash.proofs.Product.{product-zero}
+use Rattle.ghash.proofs.Cases.{one-is, rightmost-is}
+use Rattle.page.specs.Page.{keystream, encrypted, tag-for, page-tag}
+use Rattle.page.proofs.Ciphertext.{stream-block}
 use Rattle.cipher.specs.Step.{T1, T2, sigma, z, step}
 use Rattle.cipher.specs.Run.{forward, move, made, moves, zs}
 use Rattle.start.specs.declared.Mode.{Mode}
@@ -66,7 +71,21 @@ first-z key iv m k =
     (ap (λ (v : List ℕ). sums v (numbers 4 4 (drop 16 key))) zero-words ∙ zero-sum 4 (numbers 4 4 (drop 16 key)) (words-of h .long) (words-of h .below))
     ∙ ap (λ (t : List ℕ). xors t zeros) (littles-numbers 4 4 (drop 16 key) h) ∙ xors-zeros 16 (drop 16 key) (h .long)
 
+-- ---- with no data and no text one block of zeros is hashed, and zero times H is zero
+
+zero-times : (h : List ℕ) → zeros • h ≡ zeros
+unfolding _•_ big bigs
+zero-times h = ap (bigs 16) (product-zero (big h))
+
+nothing-hashed : (key iv : List ℕ) → page-tag key iv [] [] ≡ xors zeros (keystream key iv 1)
+unfolding tag-for encrypted bigs hashFrom blocks eats eat xors _⊕_
+nothing-hashed key iv = ap (λ (y : List ℕ). xors y (keystream key iv 1)) (zero-times (keystream key iv 0))
+
+empty-page : (key iv : List ℕ) → Row 32 256 key → IsBlock iv → page-tag key iv [] [] ≡ keystream key iv 1
+empty-page key iv k v =
+    nothing-hashed key iv ∙ xors-comm zeros (keystream key iv 1) ∙ xors-zeros 16 (keystream key iv 1) (stream-block key iv k v 1 .long)
+
 -- the list holds, every entry of it
 pub shown : All starred
 unfolding times over _⊕_ clock clocks unclock oldA oldB solve spread shl xtime mulBits gmul square powOnes inverse rotated affine sub pick dot mixBy round zs moves move made step z T1 T2 sigma _⊞_ sums littles numbers little number xors
-shown = (refl, (refl, (refl, (refl, (refl, (refl, (refl, (refl, (no-carry, (first-z, tt))))))))))
+shown = (refl, (refl, (refl, (refl, (refl, (refl, (refl, (refl, (no-carry, (one-is, (rightmost-is, (first-z, (empty-page, tt)))))))))))))

@@ -4,17 +4,19 @@ use Prim.Native.Nat.{ℕ, _^_, _<_}
 use mathlib.Core.Path.{_≡_}
 use mathlib.Core.List.{List, [], _∷_, _++_}
 use lib.ListN.{drop, replicate}
-use Rattle.words.specs.Bytes.{Row, littles}
+use Rattle.words.specs.Bytes.{Row, IsBlock, littles}
 use Rattle.words.specs.Sums.{_⊞_}
 use Rattle.lfsr.specs.Cells.{alpha, alpha⁻¹, beta, beta⁻¹}
 use Rattle.lfsr.specs.Clock.{snowV, clock}
 use Rattle.lfsr.specs.Unclock.{solvedV, unclock}
 use Rattle.lfsr.specs.declared.Lfsr.{Lfsr}
 use Rattle.aes.specs.Round.{round}
+use Rattle.ghash.specs.Hash.{_•_}
 use Rattle.cipher.specs.Step.{z}
 use Rattle.cipher.specs.Run.{forward, zs}
 use Rattle.start.specs.declared.Mode.{Mode}
 use Rattle.start.specs.Start.{load, blank}
+use Rattle.page.specs.Page.{keystream, page-tag}
 
 -- every statement of a list holds
 abbrev pub All : List (Type 0) → Type 0
@@ -45,6 +47,11 @@ starred =
     -- 0xffffffff + 1 in the low word is 0, the next word unchanged (and so are the others)
     ∷ ((b c d : ℕ) → b < 2 ^ 32 → c < 2 ^ 32 → d < 2 ^ 32
     → littles 4 (0xffffffff ∷ b ∷ c ∷ d ∷ []) ⊞ littles 4 (1 ∷ 0 ∷ 0 ∷ 0 ∷ []) ≡ littles 4 (0 ∷ b ∷ c ∷ d ∷ []))
+    -- GHASH product: 80 00.. is the one; 00..01 times 40 00.. is e1 00..
+    ∷ ((x : List ℕ) → IsBlock x → (x • (0x80 ∷ replicate 15 0) ≡ x) × ((0x80 ∷ replicate 15 0) • x ≡ x))
+    ∷ ((replicate 15 0 ++ (0x01 ∷ [])) • (0x40 ∷ replicate 15 0) ≡ 0xe1 ∷ replicate 15 0)
     -- first z of every start is key bytes 16 to 31
     ∷ ((key iv : List ℕ) (m : Mode) → Row 32 256 key → z (load key iv m) ≡ drop 16 key)
+    -- no data, no text: tag = end pad
+    ∷ ((key iv : List ℕ) → Row 32 256 key → IsBlock iv → page-tag key iv [] [] ≡ keystream key iv 1)
     ∷ []
