@@ -1,5 +1,5 @@
 -- Trace (document 01, "Start and trace"): walking back from a state to the IV and mode that lead to it, or a refusal. How the walk goes need
--- not be believed by reading: proofs/Traced.antt shows that it finds an IV and mode exactly when they lead to the state, and 6 exactly when
+-- not be believed by reading: proofs/Tracing.antt shows that it finds an IV and mode exactly when they lead to the state, and 6 exactly when
 -- none do.
 use Prim.Native.Nat.{ℕ, zero, suc}
 use mathlib.Core.Bool.{Bool, true, false, not, _&&_}
