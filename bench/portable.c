@@ -291,3 +291,24 @@ void portable_seal(const uint8_t *key, const uint8_t *iv, const uint8_t *ad, siz
     ghash_update(Hkey, tag, out, text_len);
     ghash_final(Hkey, tag, ad_len, text_len, endPad);
 }
+
+/* The registers after as many steps: A, B, R1, R2, R3, low byte first. */
+void portable_registers(const uint8_t *key, const uint8_t *iv, int sealed, size_t steps, uint8_t out[112])
+{
+    struct SnowV32 s;
+    u8 z[16];
+    keyiv_setup(&s, key, iv, sealed);
+    for (size_t i = 0; i < steps; i++)
+        keystream(&s, z);
+    for (int i = 0; i < 16; i++)
+        for (int j = 0; j < 2; j++) {
+            out[2 * i + j] = (u8)(s.A[i] >> (8 * j));
+            out[32 + 2 * i + j] = (u8)(s.B[i] >> (8 * j));
+        }
+    for (int i = 0; i < 4; i++)
+        for (int j = 0; j < 4; j++) {
+            out[64 + 4 * i + j] = (u8)(s.R1[i] >> (8 * j));
+            out[80 + 4 * i + j] = (u8)(s.R2[i] >> (8 * j));
+            out[96 + 4 * i + j] = (u8)(s.R3[i] >> (8 * j));
+        }
+}

@@ -18,4 +18,8 @@ void portable_keystream(const uint8_t *key, const uint8_t *iv, int sealed, uint8
 void portable_seal(const uint8_t *key, const uint8_t *iv, const uint8_t *ad, size_t ad_len,
                    const uint8_t *text, size_t text_len, uint8_t *out, uint8_t tag[16]);
 
+/* The registers that a start leads to after `steps` steps: A, B, R1, R2, R3, low byte first. */
+void portable_registers(const uint8_t *key, const uint8_t *iv, int sealed, size_t steps,
+                        uint8_t out[112]);
+
 #endif

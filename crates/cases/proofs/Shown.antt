@@ -23,6 +23,7 @@ use Rattle.ghash.proofs.Product.{product-zero}
 use Rattle.ghash.proofs.Cases.{one-is, rightmost-is}
 use Rattle.page.specs.Page.{keystream, encrypted, tag-for, page-tag}
 use Rattle.page.proofs.Ciphertext.{stream-block}
+use Rattle.retention.proofs.Cases.{kept-at-548, not-kept-at-549}
 use Rattle.cipher.specs.Step.{T1, T2, sigma, z, step}
 use Rattle.cipher.specs.Run.{forward, move, made, moves, zs}
 use Rattle.start.specs.declared.Mode.{Mode}
@@ -88,4 +89,4 @@ empty-page key iv k v =
 -- the list holds, every entry of it
 pub shown : All starred
 unfolding times over _⊕_ clock clocks unclock oldA oldB solve spread shl xtime mulBits gmul square powOnes inverse rotated affine sub pick dot mixBy round zs moves move made step z T1 T2 sigma _⊞_ sums littles numbers little number xors
-shown = (refl, (refl, (refl, (refl, (refl, (refl, (refl, (refl, (no-carry, (one-is, (rightmost-is, (first-z, (empty-page, tt)))))))))))))
+shown = (refl, (refl, (refl, (refl, (refl, (refl, (refl, (refl, (no-carry, (one-is, (rightmost-is, (first-z, (empty-page, (kept-at-548, (not-kept-at-549, tt)))))))))))))))

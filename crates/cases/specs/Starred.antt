@@ -1,7 +1,8 @@
 -- The starred cases of document 01, "Trial bookings", in its order: one list of statements about the definitions, and one statement that all
 -- of them hold. Bytes and cells are numbers; a block is a list of 16 bytes.
-use Prim.Native.Nat.{ℕ, _^_, _<_}
+use Prim.Native.Nat.{ℕ, _+_, _^_, _<_, _≤_}
 use mathlib.Core.Path.{_≡_}
+use mathlib.Core.Bool.{true, false}
 use mathlib.Core.List.{List, [], _∷_, _++_}
 use lib.ListN.{drop, replicate}
 use Rattle.words.specs.Bytes.{Row, IsBlock, littles}
@@ -17,6 +18,7 @@ use Rattle.cipher.specs.Run.{forward, zs}
 use Rattle.start.specs.declared.Mode.{Mode}
 use Rattle.start.specs.Start.{load, blank}
 use Rattle.page.specs.Page.{keystream, page-tag}
+use Rattle.retention.specs.Keeping.{last-day, Answer.decided, keeping}
 
 -- every statement of a list holds
 abbrev pub All : List (Type 0) → Type 0
@@ -54,4 +56,7 @@ starred =
     ∷ ((key iv : List ℕ) (m : Mode) → Row 32 256 key → z (load key iv m) ≡ drop 16 key)
     -- no data, no text: tag = end pad
     ∷ ((key iv : List ℕ) → Row 32 256 key → IsBlock iv → page-tag key iv [] [] ≡ keystream key iv 1)
+    -- day difference 548 kept, 549 not
+    ∷ ((today departure : ℕ) → today ≤ last-day → departure ≤ last-day → today ≡ departure + 548 → keeping today departure ≡ decided true)
+    ∷ ((today departure : ℕ) → today ≤ last-day → departure ≤ last-day → today ≡ departure + 549 → keeping today departure ≡ decided false)
     ∷ []

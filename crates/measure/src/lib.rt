@@ -1,10 +1,11 @@
-// What the benchmark under bench/ calls from C: a run of the keystream, forward or back.
+// What the benchmark under bench/ calls from C: a run of the keystream, forward or back, a page sealed, and a session resumed.
 ghost use mathlib.Core.Path.{_≡_};
 ghost use mathlib.Core.List.{[], _++_};
 ghost use Prim.Native.Nat.{_/_};
 ghost use lib.ListN.{length, drop};
 ghost use Rattle.cipher.specs.Run.{run-number};
 ghost use Rattle.page.specs.Calls.{seal-number, seal-out};
+ghost use Rattle.suspend.specs.Calls.{resume-call};
 ghost use Rattle.measure.specs.Run.{part};
 use start::Mode;
 
@@ -42,4 +43,13 @@ pub extern "C" fn measure_seal(
         words::store(tag, 0, words::load(&t, 0));
     }
     s.answer
+}
+
+// Resumes a session from its block, and drops it.
+#[no_mangle]
+pub extern "C" fn measure_resume(key: &[u8], block: &[u8]) -> u64
+    ensures { λ r. ⌜ r ≡ resume-call (now (key .entry)) (now (block .entry)) .number ⌝ }
+{
+    let r = suspend::resume(key, block);
+    r.answer
 }

@@ -1,0 +1,7 @@
+pub mod Writing
+pub mod Digits
+pub mod Reading
+pub mod Taken
+pub mod Printing
+pub mod Whole
+pub mod Sealing

@@ -1,0 +1,4 @@
+pub mod Hex
+pub mod Lines
+pub mod Output
+pub mod Machine
