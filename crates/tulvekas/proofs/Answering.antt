@@ -1,0 +1,94 @@
+-- What a refusal leaves and an accepted call gives, whatever the call, and how tests on lengths decide an answer.
+use mathlib.Core.Path.{_≡_, refl, ap, ap₂, _∙_}
+use mathlib.Core.Bool.{Bool, true, false}
+use mathlib.Core.List.{List, [], _∷_, _++_}
+use Prim.Native.Nat.{ℕ, zero, suc, _+_, _≤_, _<_}
+use native.Mathlib.Omega.{arith}
+use borrow.Author.Tests.{eq-eqb, ne-eqb, lt-ltb, le-ltb}
+use lib.Dec.{eqb}
+use lib.ListN.{length, drop, set, length-append}
+use lib.Seq.{sets}
+use Rattle.scope.specs.Refusals.{pick, granted}
+use Rattle.words.specs.Bytes.{little}
+use Rattle.words.proofs.Bytes.{little-long}
+use Rattle.fields.proofs.Writing.{put-next, put-front}
+use Rattle.session.specs.Sealing.{Sealing}
+use Rattle.tulvekas.specs.Order.{next, room, written}
+use Rattle.tulvekas.specs.SessionBytes.{session-bytes, sealing-at, Leaves}
+use Rattle.tulvekas.specs.Sessions.{whole}
+
+pub never : (k : ℕ) → ¬ (suc k ≡ 0)
+never k e = omega arith
+
+-- ---- r is what the code answers, n what the definition says
+
+module _ {r n : ℕ} (e : r ≡ n) where
+  pub refused : {A : Type 0} (a b : A) → ¬ (r ≡ 0) → b ≡ granted n a b
+  refused a b h = rw (ne-eqb n 0 (λ z. h (e ∙ z)))
+
+  pub unwritten : (k : ℕ) (v out : List ℕ) → ¬ (r ≡ 0) → out ≡ written n k v out
+  unwritten k v out h = refused (v ++ drop k out) out h
+
+  pub leaves-all : (g : Sealing) (s : List ℕ) → ¬ (r ≡ 0) → Leaves n g s s
+  leaves-all g s h = record { bytes = unwritten 216 (session-bytes g) s h; lists = refused g (sealing-at s) h }
+
+module _ {n : ℕ} (e : 0 ≡ n) where
+  pub accepted : {A : Type 0} (a b : A) → a ≡ granted n a b
+  accepted a b = rw (← e)
+
+  pub leaves-stored : (g g′ : Sealing) (s after : List ℕ) → g ≡ g′ → Leaves 0 g s after → Leaves n g′ s after
+  leaves-stored g g′ s after f l =
+      record {
+        bytes = l .bytes ∙ ap (λ (u : Sealing). session-bytes u ++ drop 216 s) f ∙ accepted (session-bytes g′ ++ drop 216 s) s;
+        lists = l .lists ∙ f ∙ accepted g′ (sealing-at s);
+      }
+
+-- what a refused call left is left by one that says so again
+pub granted-again : {A : Type 0} (n : ℕ) (a b : A) → granted n a b ≡ granted n (granted n a b) b
+granted-again n a b = go (eqb n 0)
+  where
+    go : (t : Bool) → pick t a b ≡ pick t (pick t a b) b
+    go true = refl
+    go false = refl
+
+-- ---- bytes at the front of a buffer
+
+pub set-first : (out : List ℕ) (b : ℕ) → 1 ≤ length out → set out 0 b ≡ (b ∷ []) ++ drop 1 out
+set-first [] b h = absurd (omega arith)
+set-first (x ∷ out) b h = refl
+
+pub put-iv : (out : List ℕ) (lo hi : ℕ) {o1 o2 : List ℕ} → 16 ≤ length out → o1 ≡ sets out 0 (little 8 lo) → o2 ≡ sets o1 8 (little 8 hi)
+    → o2 ≡ little 8 lo ++ little 8 hi ++ drop 16 out
+put-iv out lo hi h e1 e2 =
+    put-next out (little 8 lo) (little 8 hi) 0 8 (let l = little-long 8 lo in omega arith) e1 e2
+    ∙ put-front out (little 8 lo ++ little 8 hi) 16 (length-append (little 8 lo) (little 8 hi) ∙ ap₂ _+_ (little-long 8 lo) (little-long 8 hi)) h
+
+-- ---- the tests
+
+pub below-refuses : (n later : ℕ) → ¬ (n ≡ 0) → n ≡ next n later
+below-refuses n later h = refused {r = n} {n = n} refl later n h
+
+pub below-accepts : (n later : ℕ) → 0 ≡ n → later ≡ next n later
+below-accepts n later e = accepted e later n
+
+pub nothing-later : (n : ℕ) → n ≡ next n 0
+nothing-later zero = refl
+nothing-later (suc n) = below-refuses (suc n) 0 (never n)
+
+pub four-later : (n : ℕ) → ¬ (next n 4 ≡ 0)
+four-later zero = never 3
+four-later (suc n) = λ z. never n (below-refuses (suc n) 4 (never n) ∙ z)
+
+module _ (k : ℕ) (out : List ℕ) (later : ℕ) where
+  pub short : length out < k → 4 ≡ room k out later
+  short h = rw (lt-ltb (length out) k h)
+
+  pub fits : k ≤ length out → later ≡ room k out later
+  fits h = rw (le-ltb (length out) k h)
+
+module _ (s : List ℕ) (later : ℕ) where
+  pub torn : ¬ (length s ≡ 216) → 8 ≡ whole s later
+  torn h = rw (ne-eqb (length s) 216 h)
+
+  pub sound : length s ≡ 216 → later ≡ whole s later
+  sound h = rw (eq-eqb (length s) 216 h)

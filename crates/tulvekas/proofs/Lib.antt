@@ -1,0 +1,6 @@
+pub mod SessionLaws
+pub mod Answering
+pub mod PageAnswers
+pub mod SessionAnswers
+pub mod CipherAnswers
+pub mod KeptAnswers

@@ -1,0 +1,96 @@
+-- The answers of a session's calls, by what they find.
+use mathlib.Core.Path.{_≡_, sym, ap, _∙_}
+use mathlib.Core.List.{List, _++_}
+use Prim.Native.Nat.{ℕ, _≤_, _<_}
+use lib.ListN.{length, drop}
+use Rattle.scope.specs.Refusals.{granted}
+use Rattle.start.specs.Start.{start-number}
+use Rattle.session.specs.Sealing.{Sealing}
+use Rattle.session.specs.Calls.{Given, begin-call, closed, text-out, text-number, text-call, finish-call}
+use Rattle.session.proofs.Numbers.{finish-late, finish-due}
+use Rattle.layout.specs.Block.{block-of}
+use Rattle.suspend.specs.Calls.{kept-of, suspend-number, suspend-call, resume-call}
+use Rattle.tulvekas.specs.Order.{next, room}
+use Rattle.tulvekas.specs.SessionBytes.{sealing-at}
+use Rattle.tulvekas.specs.Sessions.{whole, begin-answer, finish-answer, take-up-answer}
+use Rattle.tulvekas.proofs.Answering.{granted-again, below-refuses, below-accepts, short, fits, sound}
+
+module _ (key iv s : List ℕ) {n : ℕ} (e : n ≡ start-number key iv) where
+  pub begin-refused : ¬ (n ≡ 0) → n ≡ begin-answer key iv s
+  unfolding begin-answer begin-call
+  begin-refused h = e ∙ below-refuses (start-number key iv) (room 216 s 0) (λ z. h (e ∙ z))
+
+  module _ (z : n ≡ 0) where
+    pub begin-short : length s < 216 → 4 ≡ begin-answer key iv s
+    unfolding begin-answer begin-call
+    begin-short h = short 216 s 0 h ∙ below-accepts (start-number key iv) (room 216 s 0) (sym z ∙ e)
+
+    pub begin-right : 216 ≤ length s → 0 ≡ begin-answer key iv s
+    unfolding begin-answer begin-call
+    begin-right h = fits 216 s 0 h ∙ below-accepts (start-number key iv) (room 216 s 0) (sym z ∙ e)
+
+-- a refused call leaves the output: said once, or twice
+pub text-again : (v : Sealing) (p out : List ℕ) → text-call v p out .out ≡ granted (text-call v p out .number) (text-call v p out .out) out
+unfolding text-call
+text-again v p out = granted-again (text-number v p out) (text-out (closed v) p ++ drop (length p) out) out
+
+pub suspend-again : (v : Sealing) (b : List ℕ) → suspend-call v b .out ≡ granted (suspend-call v b .number) (suspend-call v b .out) b
+unfolding suspend-call
+suspend-again v b = granted-again (suspend-number v b) (block-of (kept-of v) ++ drop 512 b) b
+
+-- ---- calls that read a session: u is the one that its 216 bytes list
+
+module _ (s : List ℕ) (long : length s ≡ 216) {u : Sealing} (e : u ≡ sealing-at s) where
+  -- the call below
+  module _ (f : Sealing → Given) where
+    pub below-number : f u .number ≡ whole s (f (sealing-at s) .number)
+    below-number = ap (λ (v : Sealing). f v .number) e ∙ sound s (f (sealing-at s) .number) long
+
+    pub below-session : f u .session ≡ f (sealing-at s) .session
+    below-session = ap (λ (v : Sealing). f v .session) e
+
+    pub below-out : (out : List ℕ) → f (sealing-at s) .out ≡ granted (f (sealing-at s) .number) (f (sealing-at s) .out) out
+        → f u .out ≡ granted (whole s (f (sealing-at s) .number)) (f (sealing-at s) .out) out
+    below-out out h =
+        ap (λ (v : Sealing). f v .out) e ∙ h ∙ ap (λ (n : ℕ). granted n (f (sealing-at s) .out) out) (sound s (f (sealing-at s) .number) long)
+
+  finish-below : (tag : List ℕ) → next (finish-call u .number) (room 16 tag 0) ≡ finish-answer s tag
+  unfolding finish-answer
+  finish-below tag =
+      ap (λ (v : Sealing). next (finish-call v .number) (room 16 tag 0)) e ∙ sound s (next (finish-call (sealing-at s) .number) (room 16 tag 0)) long
+
+  pub finish-ended : (tag : List ℕ) → 2 ≤ u .phase → 7 ≡ finish-answer s tag
+  unfolding finish-call
+  finish-ended tag h = ap (λ (n : ℕ). next n (room 16 tag 0)) (sym (finish-late u h)) ∙ finish-below tag
+
+  module _ (tag : List ℕ) (h : u .phase < 2) where
+    finish-room : room 16 tag 0 ≡ finish-answer s tag
+    unfolding finish-call
+    finish-room = ap (λ (n : ℕ). next n (room 16 tag 0)) (sym (finish-due u h)) ∙ finish-below tag
+
+    pub finish-short : length tag < 16 → 4 ≡ finish-answer s tag
+    finish-short k = short 16 tag 0 k ∙ finish-room
+
+    pub finish-right : 16 ≤ length tag → 0 ≡ finish-answer s tag
+    finish-right k = fits 16 tag 0 k ∙ finish-room
+
+-- ---- take up
+
+module _ (key b s iv : List ℕ) {n : ℕ} (e : n ≡ resume-call key b .number) where
+  pub take-up-refused : ¬ (n ≡ 0) → n ≡ take-up-answer key b s iv
+  unfolding take-up-answer
+  take-up-refused h = e ∙ below-refuses (resume-call key b .number) (room 216 s (room 16 iv 0)) (λ z. h (e ∙ z))
+
+  module _ (z : n ≡ 0) where
+    take-up-room : room 216 s (room 16 iv 0) ≡ take-up-answer key b s iv
+    unfolding take-up-answer
+    take-up-room = below-accepts (resume-call key b .number) (room 216 s (room 16 iv 0)) (sym z ∙ e)
+
+    pub take-up-short : length s < 216 → 4 ≡ take-up-answer key b s iv
+    take-up-short h = short 216 s (room 16 iv 0) h ∙ take-up-room
+
+    pub take-up-short-iv : 216 ≤ length s → length iv < 16 → 4 ≡ take-up-answer key b s iv
+    take-up-short-iv h k = short 16 iv 0 k ∙ fits 216 s (room 16 iv 0) h ∙ take-up-room
+
+    pub take-up-right : 216 ≤ length s → 16 ≤ length iv → 0 ≡ take-up-answer key b s iv
+    take-up-right h k = fits 16 iv 0 k ∙ fits 216 s (room 16 iv 0) h ∙ take-up-room

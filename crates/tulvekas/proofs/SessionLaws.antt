@@ -1,0 +1,133 @@
+-- The 216 bytes of a session, field by field: they determine the session, and how code writes and reads them.
+use mathlib.Core.Path.{_≡_, sym, ap, _∙_}
+use mathlib.Core.List.{List, [], _∷_, _++_, append-assoc, append-nil}
+use Prim.Native.Nat.{ℕ, _+_, _<_, _≤_}
+use native.Mathlib.Nat.{mod-eq-of-lt}
+use native.Mathlib.Omega.{arith}
+use lib.ListN.{length, getD, drop}
+use lib.Seq.{sets}
+use Rattle.words.specs.Bytes.{little, number, Row, IsBlock}
+use Rattle.words.proofs.Rows.{row-append}
+use Rattle.words.proofs.Bytes.{little-long, little-row, number-little}
+use Rattle.fields.proofs.Parts.{At, join, down, here}
+use Rattle.fields.proofs.Writing.{put-next, put-front}
+use Rattle.layout.specs.Block.{registers-bytes, registers-at}
+use Rattle.layout.proofs.RegisterBytes.{good-row, registers-back}
+use Rattle.session.specs.Sealing.{Sealing}
+use Rattle.tulvekas.specs.SessionBytes.{session-bytes, sealing-at, Sized, Leaves}
+
+regroup : (f0 f1 f2 f3 f4 f5 f6 f7 f8 r : List ℕ)
+    → (f0 ++ f1 ++ f2 ++ f3 ++ f4 ++ f5 ++ f6 ++ f7 ++ f8) ++ r ≡ join (f0 ∷ f1 ∷ f2 ∷ f3 ∷ f4 ∷ f5 ∷ f6 ∷ f7 ∷ f8 ∷ r ∷ [])
+regroup f0 f1 f2 f3 f4 f5 f6 f7 f8 r = simp (append-assoc, append-nil)
+
+in-parts : (f f4 f5 f6 f7 f8 : List ℕ) → f ++ (f4 ++ f5 ++ f6) ++ (f7 ++ f8) ≡ f ++ f4 ++ f5 ++ f6 ++ f7 ++ f8
+in-parts f f4 f5 f6 f7 f8 = simp append-assoc
+
+first-byte : (n : ℕ) (r : List ℕ) → n < 256 → getD (little 8 n ++ r) 0 0 ≡ n
+unfolding little
+first-byte n r h = mod-eq-of-lt h
+
+module _ (s : Sealing) (g : Sized s) where
+  head-row : Row 136 256 (little 8 (s .phase) ++ little 8 (s .ad) ++ little 8 (s .text) ++ registers-bytes (s .registers))
+  head-row =
+      let r16 = row-append 256 8 8 (little-row 8 (s .phase)) (little-row 8 (s .ad)) in
+      let r24 = row-append 256 16 8 r16 (little-row 8 (s .text)) in
+      row-append 256 24 112 r24 (good-row (s .registers) (g .registers-good))
+
+  drawn-row : Row 48 256 (s .h ++ s .pad ++ s .current)
+  drawn-row = row-append 256 32 16 (row-append 256 16 16 (g .h-block) (g .pad-block)) (g .current-block)
+
+  pub session-row : Row 216 256 (session-bytes s)
+  unfolding session-bytes
+  session-row =
+      let r152 = row-append 256 136 16 head-row (g .h-block) in
+      let r168 = row-append 256 152 16 r152 (g .pad-block) in
+      let r184 = row-append 256 168 16 r168 (g .current-block) in
+      row-append 256 200 16 (row-append 256 184 16 r184 (g .hash-block)) (g .pending-block)
+
+  -- whatever stands behind them
+  module _ (r : List ℕ) where
+    at0 : At (session-bytes s ++ r) 0
+        (little 8 (s .phase) ∷ little 8 (s .ad) ∷ little 8 (s .text) ∷ registers-bytes (s .registers) ∷ s .h ∷ s .pad ∷ s .current ∷ s .sum .hash
+        ∷ s .sum .pending ∷ r ∷ [])
+    unfolding session-bytes
+    at0 =
+        record {
+          is = regroup (little 8 (s .phase)) (little 8 (s .ad)) (little 8 (s .text)) (registers-bytes (s .registers)) (s .h) (s .pad) (s .current)
+              (s .sum .hash) (s .sum .pending) r;
+        }
+
+    pub session-back : sealing-at (session-bytes s ++ r) ≡ s
+    unfolding sealing-at
+    session-back =
+        let d8 = down at0 8 (little-long 8 (s .phase)) in
+        let d16 = down d8 8 (little-long 8 (s .ad)) in
+        let d24 = down d16 8 (little-long 8 (s .text)) in
+        let d136 = down d24 112 (good-row (s .registers) (g .registers-good) .long) in
+        let d152 = down d136 16 (g .h-block .long) in
+        let d168 = down d152 16 (g .pad-block .long) in
+        let d184 = down d168 16 (g .current-block .long) in
+        let d200 = down d184 16 (g .hash-block .long) in
+        let phase = ap (λ (l : List ℕ). getD l 0 0) (at0 .is) ∙ first-byte (s .phase) _ (g .phase-byte) in
+        let ad = ap number (here d8 8 (little-long 8 (s .ad))) ∙ number-little 8 (s .ad) (g .ad-fits) in
+        let text = ap number (here d16 8 (little-long 8 (s .text))) ∙ number-little 8 (s .text) (g .text-fits) in
+        let registers =
+        ap registers-at (here d24 112 (good-row (s .registers) (g .registers-good) .long)) ∙ registers-back (s .registers) (g .registers-good) in
+        let h = here d136 16 (g .h-block .long) in
+        let pad = here d152 16 (g .pad-block .long) in
+        let current = here d168 16 (g .current-block .long) in
+        let hash = here d184 16 (g .hash-block .long) in
+        let pending = here d200 16 (g .pending-block .long) in
+        λ i. record {
+          phase = phase i;
+          ad = ad i;
+          text = text i;
+          registers = registers i;
+          h = h i;
+          pad = pad i;
+          current = current i;
+          sum = record { hash = hash i; pending = pending i };
+        }
+
+  -- the bytes of a session list it, and no other does
+  pub session-whole : sealing-at (session-bytes s) ≡ s
+  session-whole = ap sealing-at (sym (append-nil (session-bytes s))) ∙ session-back []
+
+  -- ---- how code writes them, to the front of a buffer
+
+  module _ (out : List ℕ) (fits : 216 ≤ length out) where
+    put-session : {o1 o2 o3 o4 o5 o6 : List ℕ} → o1 ≡ sets out 0 (little 8 (s .phase)) → o2 ≡ sets o1 8 (little 8 (s .ad))
+        → o3 ≡ sets o2 16 (little 8 (s .text)) → o4 ≡ sets o3 24 (registers-bytes (s .registers)) → o5 ≡ sets o4 136 (s .h ++ s .pad ++ s .current)
+        → o6 ≡ sets o5 184 (s .sum .hash ++ s .sum .pending) → o6 ≡ session-bytes s ++ drop 216 out
+    unfolding session-bytes
+    put-session e1 e2 e3 e4 e5 e6 =
+        let n8 = little-row 8 (s .phase) in
+        let n16 = row-append 256 8 8 n8 (little-row 8 (s .ad)) in
+        let n24 = row-append 256 16 8 n16 (little-row 8 (s .text)) in
+        let n184 = row-append 256 136 48 head-row drawn-row in
+        let f16 = little 8 (s .phase) ++ little 8 (s .ad) in
+        let f136 = f16 ++ little 8 (s .text) ++ registers-bytes (s .registers) in
+        let f184 = f136 ++ (s .h ++ s .pad ++ s .current) in
+        let p16 = put-next out (little 8 (s .phase)) (little 8 (s .ad)) 0 8 (let l = n8 .long in omega arith) e1 e2 in
+        let p24 = put-next out f16 (little 8 (s .text)) 0 16 (let l = n16 .long in omega arith) p16 e3 in
+        let p136 = put-next out (f16 ++ little 8 (s .text)) (registers-bytes (s .registers)) 0 24 (let l = n24 .long in omega arith) p24 e4 in
+        let p184 = put-next out f136 (s .h ++ s .pad ++ s .current) 0 136 (let l = head-row .long in omega arith) p136 e5 in
+        let all = put-next out f184 (s .sum .hash ++ s .sum .pending) 0 184 (let l = n184 .long in omega arith) p184 e6 in
+        all ∙ ap (sets out 0) (in-parts f136 (s .h) (s .pad) (s .current) (s .sum .hash) (s .sum .pending))
+        ∙ put-front out (session-bytes s) 216 (session-row .long) fits
+
+    pub session-stored : {o1 o2 o3 o4 o5 o6 : List ℕ} → o1 ≡ sets out 0 (little 8 (s .phase)) → o2 ≡ sets o1 8 (little 8 (s .ad))
+        → o3 ≡ sets o2 16 (little 8 (s .text)) → o4 ≡ sets o3 24 (registers-bytes (s .registers)) → o5 ≡ sets o4 136 (s .h ++ s .pad ++ s .current)
+        → o6 ≡ sets o5 184 (s .sum .hash ++ s .sum .pending) → Leaves 0 s out o6
+    session-stored e1 e2 e3 e4 e5 e6 =
+        let e = put-session e1 e2 e3 e4 e5 e6 in
+        record { bytes = e; lists = ap sealing-at e ∙ session-back (drop 216 out) }
+
+-- ---- and its blocks, one behind the other
+
+module _ (out : List ℕ) (at : ℕ) {a : List ℕ} (row : IsBlock a) (b : List ℕ) {o1 o2 : List ℕ} (e1 : o1 ≡ sets out at a) (e2 : o2 ≡ sets o1 (at + 16) b) where
+  pub put-two : o2 ≡ sets out at (a ++ b)
+  put-two = put-next out a b at (at + 16) (let l = row .long in omega arith) e1 e2
+
+  pub put-three : IsBlock b → (c : List ℕ) {o3 : List ℕ} → o3 ≡ sets o2 (at + 32) c → o3 ≡ sets out at (a ++ b ++ c)
+  put-three row-b c e3 = put-next out (a ++ b) c at (at + 32) (let l = row-append 256 16 16 row row-b .long in omega arith) put-two e3

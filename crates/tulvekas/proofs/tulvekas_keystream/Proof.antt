@@ -1,0 +1,79 @@
+-- `tulvekas::tulvekas_keystream` meets its contract, by the lengths and the count: a run of as many whole blocks as fit is not refused for room.
+use Prim.Native.Nat.{ℕ, _*_}
+use mathlib.Core.Path.{_≡_, sym, ap, _∙_}
+use mathlib.Core.List.{_++_}
+use lib.ListN.{getD, drop}
+use denote.Ref.{now}
+use mir.Syntax.{w16}
+use mir.Val.{Fits}
+use Rattle.cipher.specs.Registers.{Registers, Good}
+use Rattle.cipher.specs.Run.{forward, blocks}
+use Rattle.cipher.specs.Machine.{registersOf}
+use Rattle.cipher.proofs.Typed.{good-of}
+use Rattle.start.specs.Start.{start}
+use Rattle.tulvekas.specs.Cipher.{mode-of, fitting}
+use Rattle.tulvekas.proofs.Answering.{never, unwritten, accepted}
+use Rattle.tulvekas.proofs.CipherAnswers.{keystream-refused, keystream-far, keystream-right, run-fills}
+use borrow.Author.Needs.{needs}
+use Rattle.tulvekas.proofs.tulvekas_keystream.Statement.{statement}
+use Rattle.tulvekas.proofs.tulvekas_keystream.Tie as tie
+
+good : (c : tie.After-start) → Good (registersOf (c .start .result .state))
+good c =
+    let s = c .start .result .state in
+    let fa : (i : ℕ) → Fits w16 (getD (s .lfsr .a) i 0) = λ i. search needs in
+    let fb : (i : ℕ) → Fits w16 (getD (s .lfsr .b) i 0) = λ i. search needs in
+    good-of s (record {
+      in-a = record { long = search needs; below = λ i. fa i .fits };
+      in-b = record { long = search needs; below = λ i. fb i .fits };
+    })
+
+returns : tie.Need-returns
+returns c =
+    let l = c .before in
+    let a = l .before .before .before .before .args in
+    let out = now (a .out) in
+    let e = keystream-refused (now (a .key)) (now (a .iv)) out (l .lengths .ensures) (c .if1 .taken) in
+    (e, unwritten e (16 * fitting out) (blocks forward (fitting out) (start (now (a .key)) (now (a .iv)) (mode-of (a .sealed)))) out (c .if1 .taken))
+
+returns-2 : tie.Need-returns-2
+returns-2 c =
+    let l = c .before .before in
+    let a = l .before .before .before .before .args in
+    let out = now (a .out) in
+    let e = keystream-far (now (a .key)) (now (a .iv)) out (l .lengths .ensures) (c .before .if1 .left) (c .if2 .taken) in
+    (e, unwritten e (16 * fitting out) (blocks forward (fitting out) (start (now (a .key)) (now (a .iv)) (mode-of (a .sealed)))) out (never 8))
+
+returns-3 : tie.Need-returns-3
+returns-3 c =
+    let r = c .before .before in
+    let st = r .before .before .before .before in
+    let m = st .before in
+    let x = m .before in
+    let l = x .before .before in
+    let a = l .before .before .before .before .args in
+    let key = now (a .key) in
+    let iv = now (a .iv) in
+    let out = now (a .out) in
+    let z = x .before .if1 .left in
+    let e = keystream-right key iv out (l .lengths .ensures) z (x .if2 .left) in
+    let s : registersOf (st .start .result .state) ≡ start key iv (mode-of (a .sealed)) =
+    st .start .ensures .state ∙ sym (accepted (sym z ∙ l .lengths .ensures) _ _) ∙ ap (start key iv) (m .mode-named .ensures) in (
+      e,
+      run-fills (registersOf (st .start .result .state)) (good st) out (x .if2 .left) _ _ (r .run-core .ensures .1 .0) (r .run-core .ensures .1 .1 .1)
+          ∙ ap (λ (t : Registers). blocks forward (fitting out) t ++ drop (16 * fitting out) out) s
+          ∙ accepted e (blocks forward (fitting out) (start key iv (mode-of (a .sealed))) ++ drop (16 * fitting out) out) out,
+    )
+
+pub tulvekas-keystream-spec : {M : Type 1} → statement M
+tulvekas-keystream-spec =
+    tie.close
+    (tie.spec
+    (λ c κs. search needs)
+    returns
+    returns-2
+    (λ c κs. search needs)
+    (λ c κs. search needs)
+    (λ c κs. search needs)
+    (λ c. search needs)
+    returns-3)

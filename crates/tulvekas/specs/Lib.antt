@@ -1,0 +1,6 @@
+pub mod Order
+pub mod SessionBytes
+pub mod Sessions
+pub mod Pages
+pub mod Cipher
+pub mod Keeping

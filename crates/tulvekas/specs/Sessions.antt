@@ -1,0 +1,74 @@
+-- The calls of a session as C makes them, park and take up with them (document 01, "Sessions and parking"), on sessions in 216 bytes. For each:
+-- the number that it answers, which is that of the call below, with 8, first of all, for a session of another length, and 4, last, for a buffer
+-- that is too short; what it leaves in a session that it was lent to write; and what stands in its output. A refusal changes no byte.
+use Prim.Native.Nat.{ℕ}
+use mathlib.Core.Bool.{not}
+use mathlib.Core.List.{List}
+use lib.Dec.{eqb}
+use lib.ListN.{length}
+use Rattle.scope.specs.Refusals.{refuse, granted, bad-block}
+use Rattle.session.specs.Calls.{begin-call, data-call, text-call, finish-call}
+use Rattle.suspend.specs.Calls.{suspend-call, resume-call}
+use Rattle.tulvekas.specs.Order.{next, room, written}
+use Rattle.tulvekas.specs.SessionBytes.{sealing-at, Leaves}
+
+-- a session that is read is 216 bytes
+abbrev pub whole : (session : List ℕ) → ℕ → ℕ
+whole s later = refuse (not (eqb (length s) 216)) bad-block later
+
+-- ---- begin: 1, 2, 4
+
+unfoldable pub begin-answer : (key iv session : List ℕ) → ℕ
+begin-answer key iv s = next (begin-call key iv .number) (room 216 s 0)
+
+abbrev pub begin-leaves : (key iv session after : List ℕ) → Type 0
+begin-leaves key iv s after = Leaves (begin-answer key iv s) (begin-call key iv .session) s after
+
+-- ---- data: 8, 7, 3
+
+unfoldable pub data-answer : (session piece : List ℕ) → ℕ
+data-answer s p = whole s (data-call (sealing-at s) p .number)
+
+abbrev pub data-leaves : (session piece after : List ℕ) → Type 0
+data-leaves s p after = Leaves (data-answer s p) (data-call (sealing-at s) p .session) s after
+
+-- ---- text: 8, 7, 3, 4
+
+unfoldable pub text-answer : (session piece out : List ℕ) → ℕ
+text-answer s p out = whole s (text-call (sealing-at s) p out .number)
+
+abbrev pub text-leaves : (session piece out after : List ℕ) → Type 0
+text-leaves s p out after = Leaves (text-answer s p out) (text-call (sealing-at s) p out .session) s after
+
+abbrev pub text-writes : (session piece out : List ℕ) → List ℕ
+text-writes s p out = granted (text-answer s p out) (text-call (sealing-at s) p out .out) out
+
+-- ---- finish: 8, 7, 4
+
+unfoldable pub finish-answer : (session tag : List ℕ) → ℕ
+finish-answer s tag = whole s (next (finish-call (sealing-at s) .number) (room 16 tag 0))
+
+abbrev pub finish-leaves : (session tag after : List ℕ) → Type 0
+finish-leaves s tag after = Leaves (finish-answer s tag) (finish-call (sealing-at s) .session) s after
+
+abbrev pub finish-writes : (session tag : List ℕ) → List ℕ
+finish-writes s tag = written (finish-answer s tag) 16 (finish-call (sealing-at s) .out) tag
+
+-- ---- park: 8, 7, 4. The session is only read
+
+unfoldable pub park-answer : (session block : List ℕ) → ℕ
+park-answer s b = whole s (suspend-call (sealing-at s) b .number)
+
+abbrev pub park-writes : (session block : List ℕ) → List ℕ
+park-writes s b = granted (park-answer s b) (suspend-call (sealing-at s) b .out) b
+
+-- ---- take up: 1, 8, 6, 4 for either buffer
+
+unfoldable pub take-up-answer : (key block session iv : List ℕ) → ℕ
+take-up-answer key b s iv = next (resume-call key b .number) (room 216 s (room 16 iv 0))
+
+abbrev pub take-up-leaves : (key block session iv after : List ℕ) → Type 0
+take-up-leaves key b s iv after = Leaves (take-up-answer key b s iv) (resume-call key b .session) s after
+
+abbrev pub take-up-writes : (key block session iv : List ℕ) → List ℕ
+take-up-writes key b s iv = written (take-up-answer key b s iv) 16 (resume-call key b .iv) iv

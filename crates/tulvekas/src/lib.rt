@@ -1,0 +1,423 @@
+// Document 01's calls for C: numbers and lent bytes only. A slice is a pointer and a length there. Each call answers 0, or the number of the
+// refusal, which changes no lent byte; bytes behind what is written stay. Nothing is kept between calls but what the caller was handed: a
+// session is 216 lent bytes. Rust's rule for references holds for C as well: a buffer that a call writes overlaps no other buffer of that call.
+ghost use mathlib.Core.Path.{_≡_};
+ghost use mathlib.Core.List.{List, [], _∷_, _++_};
+ghost use Prim.Native.Nat.{ℕ, _≤_};
+ghost use lib.ListN.{length, drop};
+ghost use lib.Seq.{sets};
+ghost use Rattle.scope.specs.Refusals.{short-output};
+ghost use Rattle.words.specs.Machine.{bytesOf};
+ghost use Rattle.ghash.specs.Machine.{bytesOfElement};
+ghost use Rattle.start.specs.Start.{start-number};
+ghost use Rattle.digest.specs.Machine.{sumOf};
+ghost use Rattle.session.specs.Machine.{sealingOf};
+ghost use Rattle.page.specs.Calls.{seal-number, open-number, open-out};
+ghost use Rattle.retention.specs.Keeping.{keeping};
+ghost use Rattle.tulvekas.specs.Order.{next, room, written};
+ghost use Rattle.tulvekas.specs.SessionBytes.{sealing-at, Leaves};
+ghost use Rattle.tulvekas.specs.Pages.{seal-answer, seal-writes, seal-writes-tag};
+ghost use Rattle.tulvekas.specs.Sessions.{begin-answer, begin-leaves, data-answer, data-leaves, text-answer, text-leaves, text-writes, finish-answer, finish-leaves, finish-writes, park-answer, park-writes, take-up-answer, take-up-leaves, take-up-writes};
+ghost use Rattle.tulvekas.specs.Cipher.{mode-of, keystream-answer, keystream-writes, traced, mode-byte, trace-answer, trace-iv, trace-sealed};
+ghost use Rattle.tulvekas.specs.Keeping.{kept-answer, kept-byte};
+use digest::Held;
+use ghash::Element;
+use retention::Verdict;
+use session::Session;
+use start::Mode;
+use start::Traced;
+use words::Block;
+
+// Sixteen bytes to the front of a buffer.
+fn put_block(out: &mut [u8], b: [u8; 16])
+    requires { ⌜ 16 ≤ length (now out) ⌝ }
+    ensures { λ _. ⌜ now (out .exit) ≡ b ++ drop 16 (now (out .entry)) ⌝ }
+{
+    words::store(out, 0, words::load(&b, 0));
+}
+
+// The number of a start: 1 for the key's length, 2 for the IV's.
+fn lengths(key: &[u8], iv: &[u8]) -> u64
+    ensures { λ r. ⌜ r ≡ start-number (now (key .entry)) (now (iv .entry)) ⌝ }
+{
+    if key.len() != 32 {
+        return scope::KEY_LENGTH;
+    }
+    if iv.len() != 16 {
+        return scope::IV_LENGTH;
+    }
+    scope::ACCEPTED
+}
+
+// ---- whole pages
+
+// What a seal answers where there is no room for the tag, whatever its output.
+fn short_tag(key: &[u8], iv: &[u8], ad: &[u8], text: &[u8]) -> u64
+    ensures { λ r. ⌜ ((out : List ℕ) → r ≡ next (seal-number (now (key .entry)) (now (iv .entry)) (now (ad .entry)) (now (text .entry)) out) short-output) ⌝ }
+{
+    let n = lengths(key, iv);
+    if n != 0 {
+        return n;
+    }
+    if ad.len() as u64 > scope::MOST_DATA {
+        return scope::TOO_LONG;
+    }
+    if text.len() as u64 > scope::MOST_TEXT {
+        return scope::TOO_LONG;
+    }
+    scope::SHORT_OUTPUT
+}
+
+// Seals a page: the ciphertext, as many bytes as the text has, and the tag, 16 bytes. Refused: 1, 2, 3, 4 for either buffer.
+#[no_mangle]
+pub extern "C" fn tulvekas_seal(
+    key: &[u8],
+    iv: &[u8],
+    ad: &[u8],
+    text: &[u8],
+    out: &mut [u8],
+    tag: &mut [u8],
+) -> u64
+    ensures answer { λ r. ⌜ r ≡ seal-answer (now (key .entry)) (now (iv .entry)) (now (ad .entry)) (now (text .entry)) (now (out .entry)) (now (tag .entry)) ⌝ }
+    ensures out { λ _. ⌜ now (out .exit) ≡ seal-writes (now (key .entry)) (now (iv .entry)) (now (ad .entry)) (now (text .entry)) (now (out .entry)) (now (tag .entry)) ⌝ }
+    ensures tag { λ _. ⌜ now (tag .exit) ≡ seal-writes-tag (now (key .entry)) (now (iv .entry)) (now (ad .entry)) (now (text .entry)) (now (out .entry)) (now (tag .entry)) ⌝ }
+{
+    if tag.len() < 16 {
+        return short_tag(key, iv, ad, text);
+    }
+    let p = page::seal(key, iv, ad, text, out);
+    let n = p.answer;
+    if n != 0 {
+        return n;
+    }
+    let t = p.tag;
+    put_block(tag, t);
+    scope::ACCEPTED
+}
+
+// Opens a page, if its tag is the right one, and writes no byte of the text before that is known. Refused: 1, 2, 10, 3, 4, 5.
+#[no_mangle]
+pub extern "C" fn tulvekas_open(
+    key: &[u8],
+    iv: &[u8],
+    ad: &[u8],
+    cipher: &[u8],
+    tag: &[u8],
+    out: &mut [u8],
+) -> u64
+    ensures answer { λ r. ⌜ r ≡ open-number (now (key .entry)) (now (iv .entry)) (now (ad .entry)) (now (cipher .entry)) (now (tag .entry)) (now (out .entry)) ⌝ }
+    ensures out { λ _. ⌜ now (out .exit) ≡ open-out (now (key .entry)) (now (iv .entry)) (now (ad .entry)) (now (cipher .entry)) (now (tag .entry)) (now (out .entry)) ⌝ }
+{
+    page::open(key, iv, ad, cipher, tag, out)
+}
+
+// ---- sessions in bytes
+
+// H, the end pad and the keystream block in use, at their place.
+fn put_drawn(out: &mut [u8], h: Element, pad: Block, current: Block)
+    requires { ⌜ 216 ≤ length (now out) ⌝ }
+    ensures { λ _. ⌜ now (out .exit) ≡ sets (now (out .entry)) 136 (bytesOfElement h ++ bytesOf pad ++ bytesOf current) ⌝ }
+{
+    words::store(out, 136, ghash::to_block(h));
+    words::store(out, 152, pad);
+    words::store(out, 168, current);
+}
+
+// The hash so far and the bytes not yet hashed, at theirs.
+fn put_held(out: &mut [u8], d: Held)
+    requires { ⌜ 216 ≤ length (now out) ⌝ }
+    ensures { λ _. ⌜ now (out .exit) ≡ sets (now (out .entry)) 184 (sumOf d .hash ++ sumOf d .pending) ⌝ }
+{
+    let acc = d.acc;
+    let pending = d.pending;
+    let rest = words::load(&pending, 0);
+    words::store(out, 184, ghash::to_block(acc));
+    words::store(out, 200, rest);
+}
+
+// A session's bytes to the front of a buffer.
+fn store_session(out: &mut [u8], s: Session)
+    requires { ⌜ 216 ≤ length (now out) ⌝ }
+    ensures { λ _. ⌜ Leaves 0 (sealingOf s) (now (out .entry)) (now (out .exit)) ⌝ }
+{
+    let state = s.state;
+    let h = s.h;
+    let pad = s.pad;
+    let current = s.current;
+    let held = s.held;
+    fields::put(out, 0, 8, s.phase as u64);
+    fields::put(out, 8, 8, s.ad);
+    fields::put(out, 16, 8, s.text);
+    kept::put_state(out, 24, state);
+    put_drawn(out, h, pad, current);
+    put_held(out, held);
+}
+
+// And the session that bytes list, whatever they are.
+fn load_session(b: &[u8]) -> Session
+    requires { ⌜ length (now b) ≡ 216 ⌝ }
+    ensures { λ r. ⌜ sealingOf r ≡ sealing-at (now (b .entry)) ⌝ }
+{
+    let phase = b[0];
+    let ad = fields::get(b, 8, 8);
+    let text = fields::get(b, 16, 8);
+    let state = kept::get_state(b, 24);
+    let h = ghash::from_block(words::load(b, 136));
+    let pad = words::load(b, 152);
+    let current = words::load(b, 168);
+    let acc = ghash::from_block(words::load(b, 184));
+    let pending = words::to_bytes(words::load(b, 200));
+    let held = Held {
+        acc: acc,
+        pending: pending,
+    };
+    Session {
+        phase: phase,
+        ad: ad,
+        text: text,
+        state: state,
+        h: h,
+        pad: pad,
+        current: current,
+        held: held,
+    }
+}
+
+// ---- sealing by pieces
+
+// Begins a session, in the front 216 bytes of the buffer. Refused: 1, 2, 4.
+#[no_mangle]
+pub extern "C" fn tulvekas_begin(key: &[u8], iv: &[u8], session: &mut [u8]) -> u64
+    ensures answer { λ r. ⌜ r ≡ begin-answer (now (key .entry)) (now (iv .entry)) (now (session .entry)) ⌝ }
+    ensures session { λ _. ⌜ begin-leaves (now (key .entry)) (now (iv .entry)) (now (session .entry)) (now (session .exit)) ⌝ }
+{
+    let n = lengths(key, iv);
+    if n != 0 {
+        return n;
+    }
+    if session.len() < 216 {
+        return scope::SHORT_OUTPUT;
+    }
+    let b = session::begin(key, iv);
+    let s = b.session;
+    store_session(session, s);
+    scope::ACCEPTED
+}
+
+// Takes a piece of associated data. Refused: 8 for a session that is not 216 bytes, 7, 3.
+#[no_mangle]
+pub extern "C" fn tulvekas_data(session: &mut [u8], piece: &[u8]) -> u64
+    ensures answer { λ r. ⌜ r ≡ data-answer (now (session .entry)) (now (piece .entry)) ⌝ }
+    ensures session { λ _. ⌜ data-leaves (now (session .entry)) (now (piece .entry)) (now (session .exit)) ⌝ }
+{
+    if session.len() != 216 {
+        return scope::BAD_BLOCK;
+    }
+    let d = session::data(load_session(session), piece);
+    let told = d.answer;
+    if told != 0 {
+        return told;
+    }
+    let s = d.session;
+    store_session(session, s);
+    scope::ACCEPTED
+}
+
+// Takes a piece of text and writes as many bytes of ciphertext. Refused: 8 for a session that is not 216 bytes, 7, 3, 4.
+#[no_mangle]
+pub extern "C" fn tulvekas_text(session: &mut [u8], piece: &[u8], out: &mut [u8]) -> u64
+    ensures answer { λ r. ⌜ r ≡ text-answer (now (session .entry)) (now (piece .entry)) (now (out .entry)) ⌝ }
+    ensures session { λ _. ⌜ text-leaves (now (session .entry)) (now (piece .entry)) (now (out .entry)) (now (session .exit)) ⌝ }
+    ensures out { λ _. ⌜ now (out .exit) ≡ text-writes (now (session .entry)) (now (piece .entry)) (now (out .entry)) ⌝ }
+{
+    if session.len() != 216 {
+        return scope::BAD_BLOCK;
+    }
+    let t = session::text(load_session(session), piece, out);
+    let n = t.answer;
+    if n != 0 {
+        return n;
+    }
+    let s = t.session;
+    store_session(session, s);
+    scope::ACCEPTED
+}
+
+// Ends a session and gives its tag. Refused: 8 for a session that is not 216 bytes, 7, 4.
+#[no_mangle]
+pub extern "C" fn tulvekas_finish(session: &mut [u8], tag: &mut [u8]) -> u64
+    ensures answer { λ r. ⌜ r ≡ finish-answer (now (session .entry)) (now (tag .entry)) ⌝ }
+    ensures session { λ _. ⌜ finish-leaves (now (session .entry)) (now (tag .entry)) (now (session .exit)) ⌝ }
+    ensures tag { λ _. ⌜ now (tag .exit) ≡ finish-writes (now (session .entry)) (now (tag .entry)) ⌝ }
+{
+    if session.len() != 216 {
+        return scope::BAD_BLOCK;
+    }
+    let s = load_session(session);
+    if s.phase >= 2 {
+        return scope::OUT_OF_PHASE;
+    }
+    if tag.len() < 16 {
+        return scope::SHORT_OUTPUT;
+    }
+    let f = session::finish(s);
+    let u = f.session;
+    let t = f.tag;
+    store_session(session, u);
+    put_block(tag, t);
+    scope::ACCEPTED
+}
+
+// ---- document 01's park and take up
+
+// Writes a session's block of 512 bytes; the session is only read. Refused: 8 for a session that is not 216 bytes, 7, 4.
+#[no_mangle]
+pub extern "C" fn tulvekas_park(session: &[u8], block: &mut [u8]) -> u64
+    ensures answer { λ r. ⌜ r ≡ park-answer (now (session .entry)) (now (block .entry)) ⌝ }
+    ensures block { λ _. ⌜ now (block .exit) ≡ park-writes (now (session .entry)) (now (block .entry)) ⌝ }
+{
+    if session.len() != 216 {
+        return scope::BAD_BLOCK;
+    }
+    let p = suspend::suspend(load_session(session), block);
+    p.answer
+}
+
+// Gives the session that a block was written for, and its IV. Refused: 1, 8, 6, 4 for either buffer.
+#[no_mangle]
+pub extern "C" fn tulvekas_take_up(
+    key: &[u8],
+    block: &[u8],
+    session: &mut [u8],
+    iv: &mut [u8],
+) -> u64
+    ensures answer { λ r. ⌜ r ≡ take-up-answer (now (key .entry)) (now (block .entry)) (now (session .entry)) (now (iv .entry)) ⌝ }
+    ensures session { λ _. ⌜ take-up-leaves (now (key .entry)) (now (block .entry)) (now (session .entry)) (now (iv .entry)) (now (session .exit)) ⌝ }
+    ensures iv { λ _. ⌜ now (iv .exit) ≡ take-up-writes (now (key .entry)) (now (block .entry)) (now (session .entry)) (now (iv .entry)) ⌝ }
+{
+    let t = suspend::resume(key, block);
+    let n = t.answer;
+    if n != 0 {
+        return n;
+    }
+    if session.len() < 216 {
+        return scope::SHORT_OUTPUT;
+    }
+    if iv.len() < 16 {
+        return scope::SHORT_OUTPUT;
+    }
+    let s = t.session;
+    let v = t.iv;
+    store_session(session, s);
+    put_block(iv, v);
+    scope::ACCEPTED
+}
+
+// ---- the cipher
+
+fn mode_named(sealed: u64) -> Mode
+    ensures { λ r. ⌜ r ≡ mode-of sealed ⌝ }
+{
+    if sealed == 0 {
+        return Mode::Plain;
+    }
+    Mode::Sealed
+}
+
+// Fills a buffer with keystream from block 0 on, as many whole blocks as fit. The mode is 0 for plain, else sealed. Refused: 1, 2, 9.
+#[no_mangle]
+pub extern "C" fn tulvekas_keystream(key: &[u8], iv: &[u8], sealed: u64, out: &mut [u8]) -> u64
+    ensures answer { λ r. ⌜ r ≡ keystream-answer (now (key .entry)) (now (iv .entry)) (now (out .entry)) ⌝ }
+    ensures out { λ _. ⌜ now (out .exit) ≡ keystream-writes (now (key .entry)) (now (iv .entry)) sealed (now (out .entry)) ⌝ }
+{
+    let n = lengths(key, iv);
+    if n != 0 {
+        return n;
+    }
+    let blocks = out.len() / 16;
+    if blocks as u64 > scope::MOST_BLOCKS {
+        return scope::COUNT_TOO_HIGH;
+    }
+    let t = start::start(key, iv, mode_named(sealed));
+    let s = t.state;
+    let mut answer: u64 = 0;
+    cipher::run_core(s, &mut answer, out, blocks, false);
+    scope::ACCEPTED
+}
+
+fn mode_number(mode: Mode) -> u8
+    ensures { λ r. ⌜ r ≡ mode-byte mode ⌝ }
+{
+    match mode {
+        Mode::Plain => 0,
+        Mode::Sealed => 1,
+    }
+}
+
+// Document 01's trace: the IV, and one byte that becomes 0 for plain mode and 1 for sealed. The state is bytes 16 to 127 of a parked block.
+// Refused: 1, 8 for a state that is not 112 bytes, 9, 6, 4 for either buffer.
+#[no_mangle]
+pub extern "C" fn tulvekas_trace(
+    state: &[u8],
+    key: &[u8],
+    count: u64,
+    iv: &mut [u8],
+    sealed: &mut [u8],
+) -> u64
+    ensures answer { λ r. ⌜ r ≡ trace-answer (traced (now (state .entry)) (now (key .entry)) count) (now (iv .entry)) (now (sealed .entry)) ⌝ }
+    ensures iv { λ _. ⌜ now (iv .exit) ≡ trace-iv (traced (now (state .entry)) (now (key .entry)) count) (now (iv .entry)) (now (sealed .entry)) ⌝ }
+    ensures sealed { λ _. ⌜ now (sealed .exit) ≡ trace-sealed (traced (now (state .entry)) (now (key .entry)) count) (now (iv .entry)) (now (sealed .entry)) ⌝ }
+{
+    if key.len() != 32 {
+        return scope::KEY_LENGTH;
+    }
+    if state.len() != 112 {
+        return scope::BAD_BLOCK;
+    }
+    let s = kept::get_state(state, 0);
+    let t = start::trace(s, key, count);
+    match t {
+        Traced::Refused(n) => n,
+        Traced::Found(o) => {
+            if iv.len() < 16 {
+                return scope::SHORT_OUTPUT;
+            }
+            if sealed.len() < 1 {
+                return scope::SHORT_OUTPUT;
+            }
+            let mode = o.mode;
+            fields::put(iv, 0, 8, o.lo);
+            fields::put(iv, 8, 8, o.hi);
+            sealed[0] = mode_number(mode);
+            scope::ACCEPTED
+        }
+    }
+}
+
+// ---- keeping
+
+// One byte to the front of a buffer.
+fn put_byte(out: &mut [u8], b: u8) -> u64
+    ensures answer { λ r. ⌜ r ≡ room 1 (now (out .entry)) 0 ⌝ }
+    ensures out { λ _. ⌜ now (out .exit) ≡ written (room 1 (now (out .entry)) 0) 1 (b ∷ []) (now (out .entry)) ⌝ }
+{
+    if out.len() < 1 {
+        return scope::SHORT_OUTPUT;
+    }
+    out[0] = b;
+    scope::ACCEPTED
+}
+
+// Whether a page is kept today, by the day of its departure: one byte that becomes 1 if it is, else 0. Refused: 12, 4.
+#[no_mangle]
+pub extern "C" fn tulvekas_kept(today: u64, departure: u64, kept: &mut [u8]) -> u64
+    ensures answer { λ r. ⌜ r ≡ kept-answer (keeping today departure) (now (kept .entry)) ⌝ }
+    ensures kept { λ _. ⌜ now (kept .exit) ≡ kept-byte (keeping today departure) (now (kept .entry)) ⌝ }
+{
+    let v = retention::kept(today, departure);
+    match v {
+        Verdict::Refused(n) => n,
+        Verdict::Kept => put_byte(kept, 1),
+        Verdict::NotKept => put_byte(kept, 0),
+    }
+}
