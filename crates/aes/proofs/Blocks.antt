@@ -9,18 +9,18 @@ use Rattle.words.specs.declared.Block.{Block}
 use Rattle.words.proofs.Bytes.{little-below}
 use Rattle.words.proofs.Blocks.{four}
 use Rattle.aes.specs.Field.{sub, unsub}
-use Rattle.aes.specs.Round.{pick, mixBy, mixColumns, unmixColumns, round, unround}
+use Rattle.aes.specs.Round.{gathered, mixBy, mixColumns, unmixColumns, round, unround}
 use Rattle.aes.specs.Tables.{Holds}
 use Rattle.aes.specs.Columns.{diagonal}
 
 -- a column that is gathered through a table
 abbrev Gathers : List ℕ → (w x y z g : ℕ) → Type 0
-Gathers t w x y z g = little 4 g ≡ pick (diagonal (little 4 w) (little 4 x) (little 4 y) (little 4 z)) t
+Gathers t w x y z g = little 4 g ≡ gathered (diagonal (little 4 w) (little 4 x) (little 4 y) (little 4 z)) t
 
 module _ (f : ℕ → ℕ) (t : List ℕ) (h : Holds f t) where
   looked-up : (w x y z g : ℕ) → Gathers t w x y z g
       → little 4 g ≡ map f (diagonal (little 4 w) (little 4 x) (little 4 y) (little 4 z))
-  unfolding pick
+  unfolding gathered
   looked-up w x y z g e =
       e ∙ four (h .rule _ (little-below 4 w 0)) (h .rule _ (little-below 4 x 1)) (h .rule _ (little-below 4 y 2)) (h .rule _ (little-below 4 z 3))
 
@@ -37,7 +37,7 @@ module _ (x y : Block) (t : List ℕ) (h : Holds sub t) where
       → Gathers t (x .w2) (x .w3) (x .w0) (x .w1) c → little 4 (y .w2) ≡ mixColumns (little 4 c)
       → Gathers t (x .w3) (x .w0) (x .w1) (x .w2) d → little 4 (y .w3) ≡ mixColumns (little 4 d)
       → bytesOf y ≡ round (bytesOf x)
-  unfolding bytesOf littles little round pick mixBy
+  unfolding bytesOf littles little round gathered mixBy
   is-round a b c d ga ma gb mb gc mc gd md =
       columns y (ma ∙ ap mixColumns (looked-up sub t h (x .w0) (x .w1) (x .w2) (x .w3) a ga))
       (mb ∙ ap mixColumns (looked-up sub t h (x .w1) (x .w2) (x .w3) (x .w0) b gb))
@@ -53,7 +53,7 @@ module _ (x y : Block) (t : List ℕ) (h : Holds unsub t) where
       → Gathers t c b a d (y .w2)
       → Gathers t d c b a (y .w3)
       → bytesOf y ≡ unround (bytesOf x)
-  unfolding bytesOf littles little unround pick mixBy
+  unfolding bytesOf littles little unround gathered mixBy
   is-unround a b c d ma mb mc md ga gb gc gd =
       columns y (looked-up unsub t h a d c b (y .w0) ga ∙ (λ i. map unsub (diagonal (ma i) (md i) (mc i) (mb i))))
       (looked-up unsub t h b a d c (y .w1) gb ∙ (λ i. map unsub (diagonal (mb i) (ma i) (md i) (mc i))))

@@ -5,7 +5,7 @@ use mathlib.Core.List.{List, [], _∷_}
 use Prim.Native.Nat.{ℕ}
 use Rattle.words.specs.Xor.{_⊕_}
 use Rattle.aes.specs.Field.{xtime, mulBits, gmul, square, powOnes, inverse, rotated, affine, unaffine, sub, unsub}
-use Rattle.aes.specs.Round.{pick, dot, mixBy, round, unround}
+use Rattle.aes.specs.Round.{gathered, dot, mixBy, round, unround}
 
 product : gmul 0x57 0x13 ≡ 0xfe
 unfolding xtime mulBits gmul _⊕_
@@ -18,9 +18,9 @@ abbrev after : List ℕ
 after = 0x04 ∷ 0x66 ∷ 0x81 ∷ 0xe5 ∷ 0xe0 ∷ 0xcb ∷ 0x19 ∷ 0x9a ∷ 0x48 ∷ 0xf8 ∷ 0xd3 ∷ 0x7a ∷ 0x28 ∷ 0x06 ∷ 0x26 ∷ 0x4c ∷ []
 
 forth : round before ≡ after
-unfolding xtime mulBits gmul square powOnes inverse rotated affine sub pick dot mixBy round _⊕_
+unfolding xtime mulBits gmul square powOnes inverse rotated affine sub gathered dot mixBy round _⊕_
 forth = refl
 
 back : unround after ≡ before
-unfolding xtime mulBits gmul square powOnes inverse rotated unaffine unsub pick dot mixBy unround _⊕_
+unfolding xtime mulBits gmul square powOnes inverse rotated unaffine unsub gathered dot mixBy unround _⊕_
 back = refl

@@ -6,21 +6,21 @@ use lib.ListN.{length, getD}
 use Rattle.words.specs.Bytes.{Row, IsBlock}
 use Rattle.words.proofs.Rows.{Below, tab-all}
 use Rattle.aes.specs.Field.{sub, unsub}
-use Rattle.aes.specs.Round.{subBytes, unsubBytes, pick, shiftRows, unshiftRows, mixColumns, unmixColumns, round, unround}
+use Rattle.aes.specs.Round.{subBytes, unsubBytes, gathered, shiftRows, unshiftRows, mixColumns, unmixColumns, round, unround}
 use Rattle.aes.proofs.Lists.{map-row, map-undo}
 use Rattle.aes.proofs.Boxes.{sub-lt, unsub-lt, unsub-sub, sub-unsub}
 use Rattle.aes.proofs.Mixing.{unmix-mix, mix-unmix, mix-row}
 
-pub pick-row : (places s : List ℕ) → Below 256 s → Row (length places) 256 (pick places s)
-unfolding pick
-pick-row places s h = map-row (λ i. getD s i 0) h (length places) places refl
+pub gathered-row : (places s : List ℕ) → Below 256 s → Row (length places) 256 (gathered places s)
+unfolding gathered
+gathered-row places s h = map-row (λ i. getD s i 0) h (length places) places refl
 
 unshift-shift : (s : List ℕ) → length s ≡ 16 → unshiftRows (shiftRows s) ≡ s
-unfolding pick
+unfolding gathered
 unshift-shift s e = tab-all 16 s e
 
 shift-unshift : (s : List ℕ) → length s ≡ 16 → shiftRows (unshiftRows s) ≡ s
-unfolding pick
+unfolding gathered
 shift-unshift s e = tab-all 16 s e
 
 -- ---- the round
@@ -30,13 +30,13 @@ module _ (s : List ℕ) (h : IsBlock s) where
   substituted = map-row sub sub-lt 16 s (h .long)
 
   shifted : IsBlock (shiftRows (subBytes s))
-  shifted = pick-row _ (subBytes s) (substituted .below)
+  shifted = gathered-row _ (subBytes s) (substituted .below)
 
   unmixed : IsBlock (unmixColumns s)
   unmixed = mix-row 14 11 13 9 16 h
 
   unshifted : IsBlock (unshiftRows (unmixColumns s))
-  unshifted = pick-row _ (unmixColumns s) (unmixed .below)
+  unshifted = gathered-row _ (unmixColumns s) (unmixed .below)
 
   pub round-block : IsBlock (round s)
   unfolding round

@@ -1,31 +1,20 @@
 -- A test that antt computes at each number below a bound, one after the other, holds at every one of them.
 use mathlib.Core.Path.{_≡_, sym, subst}
 use mathlib.Core.Logic.{⊎-elim}
-use mathlib.Core.Bool.{Bool, true, false}
+use mathlib.Core.Bool.{Bool, true, _&&_}
 use mathlib.Core.List.{List}
 use Prim.Native.Nat.{ℕ, zero, suc, _<_}
 use native.Mathlib.Omega.{arith}
 use native.Mathlib.Nat.{eq-or-lt-of-le, le-of-suc-le-suc}
 use lib.Dec.{T, eqb, ltb, eqb→eq, ltb→lt}
 use lib.ListN.{getD}
+use Rattle.words.proofs.Tests.{both-left, both-right}
 use Rattle.aes.specs.Tables.{Holds}
-
-abbrev both : Bool → Bool → Bool
-both true b = b
-both false b = false
-
-both-left : (a b : Bool) → T (both a b) → T a
-both-left true b t = tt
-both-left false b t = t
-
-both-right : (a b : Bool) → T (both a b) → T b
-both-right true b t = t
-both-right false b t = absurd t
 
 -- the test passes at each number below n
 abbrev pub passes : (ℕ → Bool) → ℕ → Bool
 passes f zero = true
-passes f (suc n) = both (f n) (passes f n)
+passes f (suc n) = f n && passes f n
 
 pub below : (f : ℕ → Bool) (n : ℕ) → T (passes f n) → (k : ℕ) → k < n → T (f k)
 below f zero t k h = absurd (omega arith)

@@ -14,16 +14,16 @@ abbrev pub unsubBytes : List ℕ → List ℕ
 unsubBytes = map unsub
 
 -- what stands in s at each of the places
-unfoldable pub pick : List ℕ → List ℕ → List ℕ
-pick places s = map (λ i. getD s i 0) places
+unfoldable pub gathered : List ℕ → List ℕ → List ℕ
+gathered places s = map (λ i. getD s i 0) places
 
 -- section 5.1.2, row r turns left by r: byte 4c + r comes from column c + r
 abbrev pub shiftRows : List ℕ → List ℕ
-shiftRows = pick (0 ∷ 5 ∷ 10 ∷ 15 ∷ 4 ∷ 9 ∷ 14 ∷ 3 ∷ 8 ∷ 13 ∷ 2 ∷ 7 ∷ 12 ∷ 1 ∷ 6 ∷ 11 ∷ [])
+shiftRows = gathered (0 ∷ 5 ∷ 10 ∷ 15 ∷ 4 ∷ 9 ∷ 14 ∷ 3 ∷ 8 ∷ 13 ∷ 2 ∷ 7 ∷ 12 ∷ 1 ∷ 6 ∷ 11 ∷ [])
 
 -- section 5.3.1, and right again: byte 4c + r comes from column c - r
 abbrev pub unshiftRows : List ℕ → List ℕ
-unshiftRows = pick (0 ∷ 13 ∷ 10 ∷ 7 ∷ 4 ∷ 1 ∷ 14 ∷ 11 ∷ 8 ∷ 5 ∷ 2 ∷ 15 ∷ 12 ∷ 9 ∷ 6 ∷ 3 ∷ [])
+unshiftRows = gathered (0 ∷ 13 ∷ 10 ∷ 7 ∷ 4 ∷ 1 ∷ 14 ∷ 11 ∷ 8 ∷ 5 ∷ 2 ∷ 15 ∷ 12 ∷ 9 ∷ 6 ∷ 3 ∷ [])
 
 -- Each column times the matrix whose first row is k0 k1 k2 k3, and each further row the one before turned right by one.
 -- (A rest of fewer than four bytes stays; a block has none.)

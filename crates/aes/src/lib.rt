@@ -14,7 +14,7 @@ ghost use Rattle.words.specs.Bytes.{little};
 ghost use Rattle.words.specs.Machine.{bytesOf};
 ghost use Rattle.aes.specs.Field.{xtime, sub, unsub};
 ghost use Rattle.aes.specs.Round as Round;
-ghost use Rattle.aes.specs.Round.{pick, mixColumns, unmixColumns};
+ghost use Rattle.aes.specs.Round.{gathered, mixColumns, unmixColumns};
 ghost use Rattle.aes.specs.Tables.{Holds};
 ghost use Rattle.aes.specs.Columns.{diagonal, turned};
 
@@ -48,7 +48,7 @@ fn entry(t: &[u8; 256], x: u32) -> u32
 
 // A column through a table: its byte r is the entry at byte r of the r-th word.
 fn gather(t: &[u8; 256], w: u32, x: u32, y: u32, z: u32) -> u32
-    ensures { λ r. ⌜ little 4 r ≡ pick (diagonal (little 4 w) (little 4 x) (little 4 y) (little 4 z)) (now (t .entry)) ⌝ }
+    ensures { λ r. ⌜ little 4 r ≡ gathered (diagonal (little 4 w) (little 4 x) (little 4 y) (little 4 z)) (now (t .entry)) ⌝ }
 {
     entry(t, w)
         + entry(t, x / 0x100) * 0x100

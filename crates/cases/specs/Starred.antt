@@ -5,6 +5,7 @@ use mathlib.Core.Path.{_≡_}
 use mathlib.Core.Bool.{true, false}
 use mathlib.Core.List.{List, [], _∷_, _++_}
 use lib.ListN.{drop, replicate}
+use Rattle.scope.specs.Limits.{last-day}
 use Rattle.words.specs.Bytes.{Row, IsBlock, littles}
 use Rattle.words.specs.Sums.{_⊞_}
 use Rattle.lfsr.specs.Cells.{alpha, alpha⁻¹, beta, beta⁻¹}
@@ -18,7 +19,7 @@ use Rattle.cipher.specs.Run.{forward, zs}
 use Rattle.start.specs.declared.Mode.{Mode}
 use Rattle.start.specs.Start.{load, blank}
 use Rattle.page.specs.Page.{keystream, page-tag}
-use Rattle.retention.specs.Keeping.{last-day, Answer.decided, keeping}
+use Rattle.retention.specs.Keeping.{Answer.decided, keeping}
 
 -- every statement of a list holds
 abbrev pub All : List (Type 0) → Type 0

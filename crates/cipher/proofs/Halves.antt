@@ -1,6 +1,6 @@
 -- Bytes of words against bytes of cells, and sigma on words: two cells make a word of the block, and sigma's four words are gathered from
 -- every second byte of the quarters put together.
-use mathlib.Core.Path.{_≡_, refl, sym, ap, ap₂, _∙_}
+use mathlib.Core.Path.{_≡_, ap, ap₂, _∙_}
 use mathlib.Core.List.{List, [], _∷_, _++_}
 use Prim.Native.Nat.{ℕ, _+_, _-_, _*_, _/_, _%_, _^_, _<_}
 use native.Mathlib.Omega.{arith}
@@ -13,7 +13,7 @@ use Rattle.words.specs.Machine.{bytesOf}
 use Rattle.words.specs.declared.Block.{Block}
 use Rattle.words.proofs.Rows.{tab-all}
 use Rattle.words.proofs.Blocks.{Words, four}
-use Rattle.aes.specs.Round.{pick}
+use Rattle.aes.specs.Round.{gathered}
 use Rattle.cipher.specs.Step.{sigma}
 
 -- eight cells, two to a word
@@ -66,7 +66,7 @@ module _ (x : Block) (w : Words x) where
       → little 4 c ≡ in-turn (upper (x .w0) (x .w2)) (upper (x .w1) (x .w3))
       → little 4 d ≡ in-turn (upper (x .w0) (x .w2) / 0x100) (upper (x .w1) (x .w3) / 0x100)
       → littles 4 (a ∷ b ∷ c ∷ d ∷ []) ≡ sigma (bytesOf x)
-  unfolding bytesOf sigma pick littles little
+  unfolding bytesOf sigma gathered littles little
   sigma-words a b c d p q r s =
       let h0 = w .in-0 in
       let h1 = w .in-1 in

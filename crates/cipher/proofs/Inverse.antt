@@ -1,19 +1,18 @@
 -- A step goes back: the clocks by their own inverse, R1 and R2 by the round's, R3 by taking off R2 and then the old a0 to a7. So every state
 -- has exactly one state before it and one after it, and the z of the step between them can be had from either.
-use mathlib.Core.Path.{_≡_, refl, sym, ap, ap₂, subst, _∙_}
-use mathlib.Core.List.{List, [], _∷_, _++_}
-use Prim.Native.Nat.{ℕ, zero, suc, _+_, _-_, _*_, _^_, _<_, _≤_}
-use native.Mathlib.Omega.{arith}
+use mathlib.Core.Path.{_≡_, sym, ap, ap₂, _∙_}
+use mathlib.Core.List.{List}
+use Prim.Native.Nat.{ℕ, _-_, _*_, _<_, _≤_}
 use lib.Dec.{lit<, lit≤}
-use lib.ListN.{length, take, drop, getD}
+use lib.ListN.{take, drop}
 use Rattle.words.specs.Xor.{xors}
 use Rattle.words.specs.Bytes.{Row, IsBlock, littles}
 use Rattle.words.specs.Sums.{_⊞_, _⊟_}
 use Rattle.words.proofs.Rows.{row-take, row-drop, tab-all}
 use Rattle.words.proofs.Bytes.{littles-long, littles-below}
 use Rattle.words.proofs.Sums.{⊞-block, ⊟-block, ⊟-⊞, ⊞-⊟, xors-block, xors-back}
-use Rattle.aes.specs.Round.{pick, round, unround}
-use Rattle.aes.proofs.Rounds.{pick-row, round-block, unround-block, unround-round, round-unround}
+use Rattle.aes.specs.Round.{gathered, round, unround}
+use Rattle.aes.proofs.Rounds.{gathered-row, round-block, unround-block, unround-round, round-unround}
 use Rattle.lfsr.specs.declared.Lfsr.{Lfsr}
 use Rattle.lfsr.specs.Clock.{snowV, clocks}
 use Rattle.lfsr.specs.Clock as clock
@@ -37,11 +36,11 @@ high-block r = cells-block (row-drop 65536 16 r 8)
 
 pub sigma-block : (x : List ℕ) → IsBlock x → IsBlock (sigma x)
 unfolding sigma
-sigma-block x h = pick-row _ x (h .below)
+sigma-block x h = gathered-row _ x (h .below)
 
 -- sigma transposes, so it undoes itself
 pub sigma-sigma : (x : List ℕ) → IsBlock x → sigma (sigma x) ≡ x
-unfolding sigma pick
+unfolding sigma gathered
 sigma-sigma x h = tab-all 16 x (h .long)
 
 -- ---- the step and the step back

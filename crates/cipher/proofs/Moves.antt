@@ -1,6 +1,6 @@
 -- n steps one way and n the other return the state, for every n and either way first, and the second run gives the same blocks again in the
 -- opposite order. Both ways are one law over the direction.
-use mathlib.Core.Path.{_≡_, refl, sym, ap, ap₂, subst, _∙_}
+use mathlib.Core.Path.{_≡_, refl, sym, ap, ap₂, _∙_}
 use mathlib.Core.Bool.{Bool, true, false, not}
 use mathlib.Core.List.{List, [], _∷_, _++_, append-assoc, append-nil}
 use Prim.Native.Nat.{ℕ, zero, suc, _+_, _*_}
@@ -8,10 +8,11 @@ use native.Mathlib.Omega.{arith}
 use native.Mathlib.Nat.{add-zero, add-suc}
 use lib.ListN.{length, length-append}
 use Rattle.words.specs.Bytes.{IsBlock}
+use Rattle.words.specs.Bytes.{joined}
 use Rattle.cipher.specs.Registers.{Registers, Good}
-use Rattle.cipher.specs.Step.{z, step}
+use Rattle.cipher.specs.Step.{z}
 use Rattle.cipher.specs.Back.{back}
-use Rattle.cipher.specs.Run.{move, made, moves, zs, joined, blocks}
+use Rattle.cipher.specs.Run.{move, made, moves, zs, blocks}
 use Rattle.cipher.proofs.Inverse.{step-good, back-good, back-step, step-back, z-block}
 
 -- ---- one step

@@ -1,18 +1,18 @@
 -- What the loop of a run has made after i turns, and the three answers of a run.
 use mathlib.Core.Path.{_≡_, refl, sym, ap, ap₂, subst, _∙_}
-use mathlib.Core.Bool.{Bool, true, false}
-use mathlib.Core.List.{List, [], _∷_, _++_, append-assoc, append-nil}
-use Prim.Native.Nat.{ℕ, zero, suc, _+_, _*_, _-_, _≤_, _<_, zero-le}
+use mathlib.Core.Bool.{Bool, false}
+use mathlib.Core.List.{List, [], _++_}
+use Prim.Native.Nat.{ℕ, _+_, _*_, _-_, _≤_, _<_, zero-le}
 use native.Mathlib.Omega.{arith}
 use native.Mathlib.Numerals.{add-one}
-use lib.Dec.{ltb, eqb}
+use lib.Dec.{eqb}
 use lib.ListN.{length, take, drop, length-append, length-drop}
 use lib.Seq.{take-at, drop-at, drop-drop, sets, sets-eq}
 use borrow.Author.Tests.{lt-ltb, le-ltb}
 use Rattle.scope.specs.Limits.{most-blocks}
-use Rattle.scope.specs.Refusals.{pick, refuse, granted}
+use Rattle.scope.specs.Refusals.{pick}
 use Rattle.cipher.specs.Registers.{Registers, Good}
-use Rattle.cipher.specs.Run.{move, made, moves, zs, joined, blocks, run-number, run-registers, run-part}
+use Rattle.cipher.specs.Run.{move, made, moves, zs, blocks, run-number, run-registers, run-part}
 use Rattle.cipher.proofs.Moves.{made-block, moves-good, blocks-more, blocks-length}
 
 -- the registers s after i steps are t, and the output that was xs is out

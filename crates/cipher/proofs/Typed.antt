@@ -1,8 +1,5 @@
 -- What the type of the code's state says of its registers, and that the registers determine the state.
-use mathlib.Core.Path.{_≡_, sym, ap, _∙_}
-use mathlib.Core.List.{List}
-use Prim.Native.Nat.{ℕ}
-use Rattle.words.specs.Machine.{bytesOf}
+use mathlib.Core.Path.{_≡_, ap}
 use Rattle.words.proofs.Blocks.{Words, bytesOf-block, bytesOf-one}
 use Rattle.lfsr.specs.Clock as clock
 use Rattle.cipher.specs.declared.State.{State}

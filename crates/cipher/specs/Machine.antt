@@ -1,8 +1,6 @@
 -- How the code holds the registers: `registersOf` says which registers a `State` of the code is, and contracts speak of those.
-use Prim.Native.Nat.{ℕ}
 use mathlib.Core.Bool.{Bool}
 use mathlib.Core.Path.{_≡_}
-use mathlib.Core.List.{List}
 use Rattle.words.specs.Machine.{bytesOf}
 use Rattle.cipher.specs.declared.State.{State}
 use Rattle.cipher.specs.declared.Moved.{Moved}

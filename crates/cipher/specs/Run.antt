@@ -5,6 +5,7 @@ use mathlib.Core.List.{List, [], _∷_, _++_}
 use lib.Dec.{ltb}
 use Rattle.scope.specs.Limits.{most-blocks}
 use Rattle.scope.specs.Refusals.{refuse, granted, count-too-high, short-output}
+use Rattle.words.specs.Bytes.{joined}
 use Rattle.cipher.specs.Registers.{Registers}
 use Rattle.cipher.specs.Step.{z, step}
 use Rattle.cipher.specs.Back.{back}
@@ -34,11 +35,6 @@ moves d (suc n) s = move d (moves d n s)
 unfoldable pub zs : Bool → ℕ → Registers → List (List ℕ)
 zs d zero s = []
 zs d (suc n) s = zs d n s ++ (made d (moves d n s) ∷ [])
-
--- lists one behind the other
-abbrev pub joined : List (List ℕ) → List ℕ
-joined [] = []
-joined (x ∷ xs) = x ++ joined xs
 
 -- their bytes
 unfoldable pub blocks : Bool → ℕ → Registers → List ℕ

@@ -5,7 +5,7 @@ use lib.ListN.{take, drop}
 use Rattle.words.specs.Xor.{xors}
 use Rattle.words.specs.Bytes.{littles}
 use Rattle.words.specs.Sums.{_⊞_}
-use Rattle.aes.specs.Round.{pick, round}
+use Rattle.aes.specs.Round.{gathered, round}
 use Rattle.lfsr.specs.Clock.{snowV, clocks}
 use Rattle.cipher.specs.Registers.{Registers}
 
@@ -19,7 +19,7 @@ T2 s = littles 2 (take 8 (s .lfsr .a))
 
 -- σ: result byte i is the input byte at the i-th of these places (11)
 unfoldable pub sigma : List ℕ → List ℕ
-sigma x = pick (0 ∷ 4 ∷ 8 ∷ 12 ∷ 1 ∷ 5 ∷ 9 ∷ 13 ∷ 2 ∷ 6 ∷ 10 ∷ 14 ∷ 3 ∷ 7 ∷ 11 ∷ 15 ∷ []) x
+sigma x = gathered (0 ∷ 4 ∷ 8 ∷ 12 ∷ 1 ∷ 5 ∷ 9 ∷ 13 ∷ 2 ∷ 6 ∷ 10 ∷ 14 ∷ 3 ∷ 7 ∷ 11 ∷ 15 ∷ []) x
 
 -- the step's block z (7)
 unfoldable pub z : Registers → List ℕ

@@ -4,7 +4,7 @@ ghost use mathlib.Core.List.{[], _∷_, _++_};
 ghost use Prim.Native.Nat.{_/_, _%_};
 ghost use lib.ListN.{length, take, drop};
 ghost use denote.Ref.{ptr};
-ghost use Rattle.words.specs.Bytes.{little, littles, numbers};
+ghost use Rattle.words.specs.Bytes.{little, littles};
 ghost use Rattle.words.specs.Machine.{bytesOf};
 ghost use Rattle.aes.specs.Field.{sub, unsub};
 ghost use Rattle.aes.specs.Tables.{Holds};

@@ -4,7 +4,7 @@ use mathlib.Core.Path.{_≡_, sym, ap, subst, _∙_}
 use mathlib.Core.List.{List}
 use Prim.Native.Nat.{_≤_}
 use lib.ListN.{length, take}
-use Rattle.fields.specs.Fields.{part}
+use Rattle.words.specs.Bytes.{part}
 use Rattle.cipher.specs.Run.{forward, moves}
 use Rattle.start.specs.declared.Mode.the-variants.{Sealed}
 use Rattle.start.specs.Start.{start}

@@ -6,8 +6,7 @@ use Prim.Native.Nat.{ℕ, _≤_}
 use native.Mathlib.Omega.{arith}
 use lib.Dec.{lit≤}
 use lib.ListN.{length, take, replicate}
-use Rattle.words.specs.Bytes.{Row, IsBlock}
-use Rattle.fields.specs.Fields.{part}
+use Rattle.words.specs.Bytes.{Row, IsBlock, part}
 use Rattle.cipher.specs.Run.{forward, moves}
 use Rattle.start.specs.declared.Mode.the-variants.{Sealed}
 use Rattle.start.specs.Start.{start}

@@ -8,7 +8,7 @@ use mathlib.Core.List.{List, _++_}
 use lib.ListN.{length, take, drop}
 use Rattle.scope.specs.Limits.{most-data, most-text, most-blocks}
 use Rattle.scope.specs.Refusals.{bad-tag, no-origin}
-use Rattle.fields.specs.Fields.{part}
+use Rattle.words.specs.Bytes.{part}
 use Rattle.cipher.specs.Registers.{Registers, Good}
 use Rattle.start.specs.declared.Mode.{Mode}
 use Rattle.start.specs.Leads.{LeadsTo}

@@ -7,7 +7,7 @@ use mathlib.Core.Path.{_≡_}
 use mathlib.Core.List.{List, [], _∷_, _++_}
 use lib.ListN.{getD, length, take, replicate}
 use Rattle.scope.specs.Refusals.{granted}
-use Rattle.fields.specs.Fields.{part}
+use Rattle.words.specs.Bytes.{part}
 use Rattle.cipher.specs.Registers.{Registers}
 use Rattle.cipher.specs.Run.{forward, run-number, run-registers}
 use Rattle.start.specs.declared.Mode.{Mode}

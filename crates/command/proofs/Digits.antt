@@ -9,6 +9,7 @@ use borrow.Author.Tests.{lt-ltb, le-ltb, le-leb, lt-leb, ltb-true, ne-eqb}
 use lib.Dec.{ltb, eqb, lit<}
 use lib.ListN.{length, getD, drop}
 use lib.Seq.{drop-cons}
+use Rattle.words.proofs.Tests.{and-left, and-right}
 use Rattle.command.specs.Hex.{digit, all-digits, bytes-of, glyph, hex-of}
 
 -- ---- a digit by its range
@@ -43,14 +44,6 @@ unfolding glyph
 large v h = rw (le-ltb v 10 h)
 
 -- ---- lines of digits
-
-pub and-left : (a b : Bool) → (a && b) ≡ true → a ≡ true
-and-left true b e = refl
-and-left false b e = e
-
-pub and-right : (a b : Bool) → (a && b) ≡ true → b ≡ true
-and-right true b e = e
-and-right false b e = cc
 
 pub all-digits-append : (p s : List ℕ) → all-digits (p ++ s) ≡ (all-digits p && all-digits s)
 unfolding all-digits

@@ -10,10 +10,12 @@ use borrow.Author.Tests.{eq-eqb, ne-eqb, le-ltb, le-leb, lt-leb, eqb-true, leb-t
 use lib.Dec.{ltb, eqb, leb}
 use lib.ListN.{length, getD, take, drop}
 use lib.Seq.{take-all, take-suc, split-at, length-take-le}
+use Rattle.scope.specs.Limits.{most-digits}
 use Rattle.scope.specs.Refusals.{pick}
+use Rattle.words.proofs.Tests.{and-left, and-right}
 use Rattle.command.specs.Hex.{digit, all-digits, bytes-of}
-use Rattle.command.specs.Lines.{Line, Line.ended, Line.no-line, behind, up-to-end, most-digits, well-formed, checked, first-line}
-use Rattle.command.proofs.Digits.{and-left, and-right, all-digits-append, all-digits-more, digit-no-end, bytes-length}
+use Rattle.command.specs.Lines.{Line, Line.ended, Line.no-line, behind, up-to-end, well-formed, checked, first-line}
+use Rattle.command.proofs.Digits.{all-digits-append, all-digits-more, digit-no-end, bytes-length}
 
 -- the same with more bytes in front
 abbrev in-front : List ℕ → Line → Line

@@ -11,7 +11,7 @@ use lib.ListN.{length, take, drop, length-append, length-take, length-drop, drop
 use lib.Seq.{take-all, drop-drop}
 use Rattle.scope.specs.Refusals.{pick}
 use Rattle.command.specs.Lines.{Line, Line.ended, Line.no-line, Lines, Lines.four, Lines.malformed, behind, up-to-end, well-formed, checked, first-line, at-end, lines-in}
-use Rattle.command.specs.Machine.{part}
+use Rattle.command.specs.Machine.{between}
 
 -- ---- one line
 
@@ -61,21 +61,21 @@ pub left-from : (s : List ℕ) (at : ℕ) → take (length s - at) (drop at s) �
 left-from s at = take-all (length s - at) (drop at s) (simp length-drop (omega arith))
 
 -- a line of it, in the places of the whole
-pub moved : (s : List ℕ) (at n : ℕ) → ended (part 0 n (drop at s)) (drop (n + 1) (drop at s)) ≡ ended (part at (at + n) s) (drop (at + n + 1) s)
+pub moved : (s : List ℕ) (at n : ℕ) → ended (between 0 n (drop at s)) (drop (n + 1) (drop at s)) ≡ ended (between at (at + n) s) (drop (at + n + 1) s)
 moved s at n =
     let e : n - 0 ≡ at + n - at = omega arith in
     let f : at + (n + 1) ≡ at + n + 1 = omega arith in
     ap₂ (λ (u v : List ℕ). ended u v) (ap (λ (k : ℕ). take k (drop at s)) e) (drop-drop (n + 1) at s ∙ ap (λ (k : ℕ). drop k s) f)
 
 -- a line that was read ends inside the input
-module _ (s : List ℕ) (at e : ℕ) (h : ended (part at e s) (drop (e + 1) s) ≡ first-line (drop at s)) where
+module _ (s : List ℕ) (at e : ℕ) (h : ended (between at e s) (drop (e + 1) s) ≡ first-line (drop at s)) where
   count : length s - at ≡ min (e - at) (length s - at) + (1 + (length s - (e + 1)))
   count =
-      let t : drop at s ≡ part at e s ++ 0x0a ∷ drop (e + 1) s = taken (drop at s) (part at e s) (drop (e + 1) s) h .joined in
+      let t : drop at s ≡ between at e s ++ 0x0a ∷ drop (e + 1) s = taken (drop at s) (between at e s) (drop (e + 1) s) h .joined in
       let p : length (drop at s) ≡ length s - at = length-drop at s in
-      let q : length (part at e s) ≡ min (e - at) (length s - at) = length-take (e - at) (drop at s) ∙ ap (min (e - at)) p in
+      let q : length (between at e s) ≡ min (e - at) (length s - at) = length-take (e - at) (drop at s) ∙ ap (min (e - at)) p in
       let r : length (drop (e + 1) s) ≡ length s - (e + 1) = length-drop (e + 1) s in
-      sym p ∙ ap length t ∙ length-append (part at e s) (0x0a ∷ drop (e + 1) s) ∙ ap₂ _+_ q (omega arith)
+      sym p ∙ ap length t ∙ length-append (between at e s) (0x0a ∷ drop (e + 1) s) ∙ ap₂ _+_ q (omega arith)
 
   pub inside : (at ≤ e) × (e < length s)
   inside = omega (arith, count)
@@ -84,7 +84,7 @@ module _ (s : List ℕ) (at e : ℕ) (h : ended (part at e s) (drop (e + 1) s) �
 
 -- a line of an input from one place up to another
 abbrev pub LineAt : List ℕ → ℕ → ℕ → Type 0
-LineAt s at e = ended (part at e s) (drop (e + 1) s) ≡ first-line (drop at s)
+LineAt s at e = ended (between at e s) (drop (e + 1) s) ≡ first-line (drop at s)
 
 module _ (s : List ℕ) where
   pub no-key : no-line ≡ first-line (drop 0 s) → malformed ≡ lines-in s
@@ -107,7 +107,7 @@ module _ (s : List ℕ) where
         no-text h = rw (← ka, ← kb, ← kc, ← h)
 
         module _ (d : ℕ) (kd : LineAt s (c + 1) d) where
-          read : at-end (drop (d + 1) s) (four (part 0 a s) (part (a + 1) b s) (part (b + 1) c s) (part (c + 1) d s)) ≡ lines-in s
+          read : at-end (drop (d + 1) s) (four (between 0 a s) (between (a + 1) b s) (between (b + 1) c s) (between (c + 1) d s)) ≡ lines-in s
           unfolding lines-in
           read = rw (← ka, ← kb, ← kc, ← kd)
 
@@ -118,5 +118,5 @@ module _ (s : List ℕ) where
           pub more : d + 1 < length s → malformed ≡ lines-in s
           more h = not-end (drop (d + 1) s) _ (simp length-drop (omega arith)) ∙ read
 
-          pub whole : d + 1 ≡ length s → four (part 0 a s) (part (a + 1) b s) (part (b + 1) c s) (part (c + 1) d s) ≡ lines-in s
-          whole h = ap (λ (r : List ℕ). at-end r (four (part 0 a s) (part (a + 1) b s) (part (b + 1) c s) (part (c + 1) d s))) (sym (drop-of-length-le s {i = d + 1} (omega arith))) ∙ read
+          pub whole : d + 1 ≡ length s → four (between 0 a s) (between (a + 1) b s) (between (b + 1) c s) (between (c + 1) d s) ≡ lines-in s
+          whole h = ap (λ (r : List ℕ). at-end r (four (between 0 a s) (between (a + 1) b s) (between (b + 1) c s) (between (c + 1) d s))) (sym (drop-of-length-le s {i = d + 1} (omega arith))) ∙ read

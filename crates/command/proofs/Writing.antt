@@ -1,45 +1,12 @@
--- A loop that writes what a function makes of a list, some bytes a turn: what is left to write, written behind what stands there, makes the
--- whole. Copying, hex digits from bytes and bytes from hex digits are the same loop at three functions.
-use mathlib.Core.Path.{_≡_, refl, sym, ap, ap₂, _∙_}
-use mathlib.Core.List.{List, [], _++_}
+-- What is printed, one text behind another.
+use mathlib.Core.Path.{_≡_, sym, ap, ap₂, _∙_}
+use mathlib.Core.List.{List, _++_}
 use Prim.Native.Nat.{ℕ, _+_, _≤_}
 use native.Mathlib.Omega.{arith}
-use lib.ListN.{length, take, drop, drop-of-length-le, length-append}
-use lib.Seq.{sets, length-sets, sets-eq, take-at, length-take-le}
+use lib.ListN.{length, take, drop, length-append}
+use lib.Seq.{sets, sets-eq, length-take-le}
 use Rattle.words.proofs.Rows.{sets-append}
 use Rattle.command.specs.Machine.{Prints}
-
--- of src, everything from i on is left; it goes to the place `to`
-pub record Written (f : List ℕ → List ℕ) (src out₀ : List ℕ) (at i to : ℕ) (out : List ℕ) : Type 0 where
-  pub made : sets out to (f (drop i src)) ≡ sets out₀ at (f src)
-  pub place : to + length (f (drop i src)) ≡ at + length (f src)
-  pub long : length out ≡ length out₀
-
-module _ (f : List ℕ → List ℕ) (src out₀ : List ℕ) (at : ℕ) where
-  pub written-none : Written f src out₀ at 0 at out₀
-  written-none = record { made = refl; place = refl; long = refl }
-
-  -- a turn writes vs and goes on from j
-  pub written-more : (i j to to′ : ℕ) (out vs : List ℕ) → f (drop i src) ≡ vs ++ f (drop j src) → to′ ≡ to + length vs → Written f src out₀ at i to out → Written f src out₀ at j to′ (sets out to vs)
-  written-more i j to to′ out vs e p w =
-      record {
-        made = ap (λ (k : ℕ). sets (sets out to vs) k (f (drop j src))) p ∙ sym (sets-append out to vs (f (drop j src))) ∙ ap (sets out to) (sym e) ∙ w .made;
-        place = let l : length (f (drop i src)) ≡ length vs + length (f (drop j src)) = ap length e ∙ length-append vs (f (drop j src)) in omega (arith, w .place);
-        long = length-sets out to vs ∙ w .long;
-      }
-
-  -- nothing is left
-  pub written-all : (i to : ℕ) (out : List ℕ) → f [] ≡ [] → length src ≤ i → Written f src out₀ at i to out → (out ≡ sets out₀ at (f src)) × (to ≡ at + length (f src))
-  written-all i to out z h w =
-      let e : f (drop i src) ≡ [] = ap f (drop-of-length-le src h) ∙ z in
-      let l : length (f (drop i src)) ≡ 0 = ap length e in
-      (ap (sets out to) (sym e) ∙ w .made, omega (arith, w .place))
-
--- what was written at the front of a list
-pub front : (out vs : List ℕ) → length vs ≤ length out → take (length vs) (sets out 0 vs) ≡ vs
-front out vs h = ap (take (length vs)) (sets-eq vs out 0 (omega arith)) ∙ take-at vs (drop (0 + length vs) out) (length vs) refl
-
--- ---- one text behind another
 
 -- the bytes vs are printed at the front of a list, n of them
 pub record Printed (out₀ vs : List ℕ) (n : ℕ) (out : List ℕ) : Type 0 where

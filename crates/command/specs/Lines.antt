@@ -5,6 +5,7 @@ use mathlib.Core.Bool.{Bool, _&&_}
 use mathlib.Core.List.{List, [], _∷_}
 use lib.Dec.{eqb, leb}
 use lib.ListN.{length}
+use Rattle.scope.specs.Limits.{most-digits}
 use Rattle.scope.specs.Refusals.{pick}
 use Rattle.command.specs.Hex.{all-digits}
 
@@ -22,10 +23,6 @@ behind b no-line = no-line
 unfoldable pub up-to-end : List ℕ → Line
 up-to-end [] = no-line
 up-to-end (b ∷ s) = pick (eqb b 0x0a) (ended [] s) (behind b (up-to-end s))
-
--- hex digits in a line
-abbrev pub most-digits : ℕ
-most-digits = 8192
 
 -- lower-case hex, an even number of digits, at most 8,192
 unfoldable pub well-formed : List ℕ → Bool

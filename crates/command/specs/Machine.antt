@@ -3,6 +3,7 @@ use Prim.Native.Nat.{ℕ, _+_, _-_, _≤_, _<_}
 use mathlib.Core.Path.{_≡_}
 use mathlib.Core.List.{List, _++_}
 use lib.ListN.{length, take, drop}
+use Rattle.words.specs.Bytes.{part}
 use Rattle.command.specs.declared.Line.{Line}
 use Rattle.command.specs.declared.Line.the-variants.{Ends, Malformed}
 use Rattle.command.specs.declared.Lines.{Lines}
@@ -14,17 +15,17 @@ use Rattle.command.specs.Output.{Answer, Answer.sealed, Answer.refused}
 use Rattle.command.specs.Lines.{Line.ended, Line.no-line, Lines.four, Lines.malformed}
 
 -- the bytes from one place up to another
-abbrev pub part : (from to : ℕ) → List ℕ → List ℕ
-part from to s = take (to - from) (drop from s)
+abbrev pub between : (from to : ℕ) → List ℕ → List ℕ
+between from to s = part from (to - from) s
 
 -- a line that starts at one place and ends at another
 abbrev pub lineOf : (input : List ℕ) (at : ℕ) → Line → Lines.Line
-lineOf s at (Ends e) = ended (part at e s) (drop (e + 1) s)
+lineOf s at (Ends e) = ended (between at e s) (drop (e + 1) s)
 lineOf s at Malformed = no-line
 
 -- four lines that end at four places
 abbrev pub linesOf : (input : List ℕ) → Lines → Lines.Lines
-linesOf s (Good p) = four (part 0 (p .key) s) (part (p .key + 1) (p .iv) s) (part (p .iv + 1) (p .ad) s) (part (p .ad + 1) (p .text) s)
+linesOf s (Good p) = four (between 0 (p .key) s) (between (p .key + 1) (p .iv) s) (between (p .iv + 1) (p .ad) s) (between (p .ad + 1) (p .text) s)
 linesOf s Unreadable = malformed
 
 -- they lie one behind the other

@@ -8,10 +8,7 @@ ghost use Rattle.command.specs.Hex;
 ghost use Rattle.command.specs.Lines.{first-line, well-formed, lines-in};
 ghost use Rattle.command.specs.Output;
 ghost use Rattle.command.specs.Output.{answer-to, printed, output};
-ghost use Rattle.command.specs.Machine.{part, lineOf, linesOf, Ordered, numberOf, answerOf, Within, Prints};
-
-// Hex digits in a line of the input.
-pub const MOST_DIGITS: usize = 8192;
+ghost use Rattle.command.specs.Machine.{between, lineOf, linesOf, Ordered, numberOf, answerOf, Within, Prints};
 
 // Bytes that the longest line says, and bytes of the longest input and the longest output.
 const MOST_BYTES: usize = 4096;
@@ -56,7 +53,7 @@ fn first(input: &[u8]) -> Line
             if i % 2 != 0 {
                 return Line::Malformed;
             }
-            if i > MOST_DIGITS {
+            if i > scope::MOST_DIGITS {
                 return Line::Malformed;
             }
             return Line::Ends(i);
@@ -183,8 +180,8 @@ fn put(text: &[u8], out: &mut [u8], at: usize) -> usize
 
 // The bytes that the line between two places of an input says, at the front of the output, and how many.
 fn line_bytes(input: &[u8], from: usize, to: usize, out: &mut [u8; MOST_BYTES]) -> usize
-    requires { ⌜ (from ≤ to) × (to ≤ length (now input)) × (well-formed (part from to (now input)) ≡ true) ⌝ }
-    ensures bytes { λ r. ⌜ take r (now (out .exit)) ≡ Hex.bytes-of (part from to (now (input .entry))) ⌝ }
+    requires { ⌜ (from ≤ to) × (to ≤ length (now input)) × (well-formed (between from to (now input)) ≡ true) ⌝ }
+    ensures bytes { λ r. ⌜ take r (now (out .exit)) ≡ Hex.bytes-of (between from to (now (input .entry))) ⌝ }
     ensures count { λ r. ⌜ (r ≤ length (now (out .exit))) × (r ≡ length (take r (now (out .exit)))) ⌝ }
 {
     decode(&input[from..to], out)

@@ -2,29 +2,16 @@
 use mathlib.Core.Path.{_≡_, refl, _∙_}
 use mathlib.Core.Bool.{Bool, true, false}
 use mathlib.Core.List.{List, [], _∷_}
-use Prim.Native.Nat.{ℕ, zero, suc, _+_, _%_, _<_}
-use lib.Dec.{eqb, lit<}
+use Prim.Native.Nat.{ℕ, suc, _+_, _%_, _<_}
+use lib.Dec.{eqb}
 use lib.ListN.{length, getD, set, length-set}
 use Rattle.scope.specs.Refusals.{pick}
-use Rattle.words.specs.Bytes.{Row, IsBlock}
-use Rattle.words.proofs.Rows.{Below, below-test}
+use Rattle.words.specs.Bytes.{IsBlock}
+use Rattle.words.proofs.Rows.{Below, row-set, zeros-block}
 use Rattle.ghash.specs.Hash.{eat}
 use Rattle.ghash.proofs.Hashing.{eat-block}
-use Rattle.digest.specs.Digest.{zeros, Sum, fresh, push, absorb, settled}
+use Rattle.digest.specs.Digest.{Sum, fresh, push, absorb, settled}
 use Rattle.digest.proofs.Pieces.{sum}
-
-pub below-set : (m : ℕ) (s : List ℕ) (i b : ℕ) → b < m → Below m s → Below m (set s i b)
-below-set m [] i b k f j = f j
-below-set m (a ∷ s) zero b k f zero = k
-below-set m (a ∷ s) zero b k f (suc j) = f (suc j)
-below-set m (a ∷ s) (suc i) b k f zero = f 0
-below-set m (a ∷ s) (suc i) b k f (suc j) = below-set m s i b k (λ x. f (suc x)) j
-
-pub row-set : (n m : ℕ) {s : List ℕ} (i b : ℕ) → b < m → Row n m s → Row n m (set s i b)
-row-set n m {s} i b k r = record { long = length-set s i b ∙ r .long; below = below-set m s i b k (r .below) }
-
-pub zeros-block : IsBlock zeros
-zeros-block = record { long = refl; below = below-test 256 zeros (lit< tt) refl }
 
 -- both ways that a byte can go
 picked {ℓ} : {A : Type 0} (P : A → Type ℓ) (t : Bool) {a b : A} → P a → P b → P (pick t a b)

@@ -11,9 +11,10 @@ use lib.Dec.{eqb}
 use lib.ListN.{length, take, drop, set, length-take, length-drop, take-append-drop, drop-of-length-le}
 use lib.Seq.{sets, sets-eq, length-take-le}
 use Rattle.scope.specs.Refusals.{pick}
+use Rattle.words.specs.Bytes.{zeros}
 use Rattle.ghash.specs.Hash.{eat, hashFrom}
 use Rattle.ghash.proofs.Hashing.{hash-append, hash-none, hash-one}
-use Rattle.digest.specs.Digest.{zeros, Sum, fresh, push, absorb}
+use Rattle.digest.specs.Digest.{Sum, fresh, push, absorb}
 
 -- a hash with bytes held
 abbrev pub sum : List ℕ → List ℕ → Sum

@@ -9,9 +9,10 @@ use native.Mathlib.Omega.{arith}
 use borrow.Author.Tests.{ne-eqb}
 use lib.ListN.{length, take, drop, replicate, length-append, length-drop, length-replicate, take-append-drop}
 use lib.Seq.{sets, sets-eq, length-take-le}
-use Rattle.ghash.specs.Hash.{eat, eats, blocks, hashFrom}
+use Rattle.words.specs.Bytes.{zeros}
+use Rattle.ghash.specs.Hash.{eat, eats, blocks-of, hashFrom}
 use Rattle.ghash.proofs.Hashing.{hash-append, hash-one}
-use Rattle.digest.specs.Digest.{zeros, Sum, fresh, absorb, settled}
+use Rattle.digest.specs.Digest.{Sum, fresh, absorb, settled}
 use Rattle.digest.proofs.Pieces.{sum, absorb-rest}
 
 -- the bytes behind the whole blocks
@@ -45,7 +46,7 @@ front-rest s = take-append-drop (length s / 16 * 16) s
 
 -- less than a block is not hashed
 pub hash-short : (h y s : List ℕ) → length s < 16 → hashFrom h y s ≡ y
-unfolding hashFrom blocks eats
+unfolding hashFrom blocks-of eats
 hash-short h y s k = let e : length s / 16 ≡ 0 = omega arith in rw e
 
 hash-front : (h y s : List ℕ) → hashFrom h y (take (length s / 16 * 16) s) ≡ hashFrom h y s

@@ -9,9 +9,10 @@ use native.Mathlib.Decide.{ℕ-discrete}
 use native.Mathlib.Omega.{arith}
 use lib.ListN.{length, take, drop, getD, set, take-append-drop}
 use lib.Seq.{sets, length-sets, slice, slice-cons, slice-empty, length-slice, length-take-le, take-nil, take-take, take-length, drop-append-le}
+use Rattle.words.specs.Bytes.{zeros}
 use Rattle.ghash.specs.Hash.{eat, hashFrom}
 use Rattle.ghash.proofs.Hashing.{hash-append, hash-none, hash-one}
-use Rattle.digest.specs.Digest.{zeros, Sum, fresh, absorb}
+use Rattle.digest.specs.Digest.{Sum, fresh, absorb}
 use Rattle.digest.proofs.Pieces.{sum, absorb-append, absorb-fills, absorb-rest, absorb-over, sets-end}
 
 pub slice-split : (f m t : ℕ) (s : List ℕ) → f ≤ m → m ≤ t → t ≤ length s → slice f t s ≡ slice f m s ++ slice m t s

@@ -3,13 +3,10 @@
 use Prim.Native.Nat.{ℕ, _+_, _%_}
 use mathlib.Core.List.{List, [], _∷_}
 use lib.Dec.{eqb}
-use lib.ListN.{set, replicate}
+use lib.ListN.{set}
 use Rattle.scope.specs.Refusals.{pick}
+use Rattle.words.specs.Bytes.{zeros}
 use Rattle.ghash.specs.Hash.{eat}
-
--- a block of zeros
-abbrev pub zeros : List ℕ
-zeros = replicate 16 0
 
 pub record Sum : Type 0 where
   pub hash : List ℕ

@@ -7,6 +7,7 @@ ghost use lib.Seq.{sets, slice};
 ghost use Rattle.words.specs.Machine.{bytesOf};
 ghost use Rattle.ghash.specs.Hash.{eat, hashFrom};
 ghost use Rattle.ghash.specs.Machine.{numberOf, bytesOfElement, Tables};
+ghost use Rattle.digest.specs.Digest;
 ghost use Rattle.digest.specs.Digest.{absorb, settled};
 ghost use Rattle.digest.specs.Machine.{sumOf};
 use ghash::Element;
@@ -16,6 +17,16 @@ use words::Block;
 pub struct Held {
     pub acc: Element,
     pub pending: [u8; 16],
+}
+
+// No bytes held under a hash.
+pub fn fresh(y: Element) -> Held
+    ensures { λ r. ⌜ sumOf r ≡ Digest.fresh (bytesOfElement y) ⌝ }
+{
+    Held {
+        acc: y,
+        pending: [0; 16],
+    }
 }
 
 // The bytes of the piece from `from` up to `to`, put into p from `at` on.

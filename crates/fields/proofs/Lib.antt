@@ -1,5 +1,2 @@
-pub mod Parts
-pub mod Writing
-pub mod Fronts
 pub mod Reading
-pub mod Blanks
+pub mod Zeros

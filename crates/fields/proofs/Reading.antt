@@ -1,19 +1,19 @@
 -- The loops that read: a number from its highest byte down, cells one by one into an array, and the sum of words.
-use mathlib.Core.Path.{_≡_, refl, sym, ap, ap₂, _∙_}
-use mathlib.Core.List.{List, _∷_, _++_}
-use Prim.Native.Nat.{ℕ, zero, suc, _+_, _-_, _*_, _%_, _^_, _≤_, _<_}
+use mathlib.Core.Path.{_≡_, sym, ap, _∙_}
+use mathlib.Core.List.{List, _++_}
+use Prim.Native.Nat.{ℕ, suc, _+_, _-_, _*_, _%_, _^_, _≤_, _<_}
 use native.Mathlib.Nat.{pow-suc, pow-le-pow-right, lt-of-lt-of-le, mod-lt}
 use native.Mathlib.Omega.{arith}
 use native.Mathlib.Numerals.{add-one}
 use lib.Arith.{digits-lt}
 use lib.Dec.{lit<}
 use lib.ListN.{length, take, drop, getD, set, length-drop, take-append-drop}
-use lib.Seq.{sets, drop-drop, take-append-le, drop-append-le, length-take-le}
-use Rattle.words.specs.Bytes.{number, numbers}
-use Rattle.words.proofs.Bytes.{numbers-long}
-use Rattle.fields.specs.Fields.{part, total, check}
-use Rattle.fields.proofs.Parts.{part-next}
-use Rattle.fields.proofs.Writing.{put-whole}
+use lib.Seq.{sets, drop-drop, length-take-le}
+use Rattle.words.specs.Bytes.{number, numbers, part}
+use Rattle.words.proofs.Bytes.{numbers-long, numbers-front}
+use Rattle.words.proofs.Parts.{part-next}
+use Rattle.words.proofs.Writing.{put-whole}
+use Rattle.fields.specs.Fields.{total, check}
 
 -- ---- a number
 
@@ -38,22 +38,6 @@ pub few-lt : (w b i : ℕ) → w < 256 ^ i → b < 256 → i < 8 → w * 256 + b
 few-lt w b i hw hb hi =
     let k : w < 256 ^ 7 = lt-of-lt-of-le hw (pow-le-pow-right (lit< tt) {i = i} {j = 7} (omega arith)) in
     digits-lt k hb
-
--- ---- numbers from the front of a longer list
-
-pub numbers-front : (k n : ℕ) (u v : List ℕ) → n * k ≤ length u → numbers k n (u ++ v) ≡ numbers k n u
-unfolding numbers
-numbers-front k zero u v h = refl
-numbers-front k (suc n) u v h =
-    let h2 : k ≤ length u = first k n (length u) h in
-    ap₂ (λ (a : List ℕ) (b : List ℕ). number a ∷ b) (take-append-le k u v h2)
-    (ap (numbers k n) (drop-append-le k u v h2) ∙ numbers-front k n (drop k u) v (rw (length-drop k u) (rest k n (length u) h)))
-  where
-    first : (k n l : ℕ) → suc n * k ≤ l → k ≤ l
-    first k n l h = omega arith
-
-    rest : (k n l : ℕ) → suc n * k ≤ l → n * k ≤ l - k
-    rest k n l h = omega arith
 
 -- ---- cells
 

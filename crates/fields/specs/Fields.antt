@@ -1,20 +1,15 @@
--- Fields of a block of bytes: a part of it, whether a part is blank, and the check (document 01, "Sessions and parking"). Numbers are low byte
--- first, as `number` and `little` of `words` have them. What stands in which part is said where a block is laid out.
+-- Fields of a block of bytes: whether a part is all zero, and the check (document 01, "Sessions and parking"). Numbers are low byte
+-- first, as `number` and `little` of `words` have them, and a part is `part` of `words`. What stands in which part is said where a block is laid out.
 use Prim.Native.Nat.{ℕ, _+_, _%_, _^_}
 use mathlib.Core.Bool.{Bool, true, _&&_}
 use mathlib.Core.List.{List, [], _∷_}
 use lib.Dec.{eqb}
-use lib.ListN.{take, drop}
 use Rattle.words.specs.Bytes.{numbers}
 
--- k bytes from byte `at` on
-abbrev pub part : (at k : ℕ) → List ℕ → List ℕ
-part at k s = take k (drop at s)
-
 -- whether all bytes are zero
-unfoldable pub blank : List ℕ → Bool
-blank [] = true
-blank (b ∷ s) = eqb b 0 && blank s
+unfoldable pub all-zero : List ℕ → Bool
+all-zero [] = true
+all-zero (b ∷ s) = eqb b 0 && all-zero s
 
 unfoldable pub total : List ℕ → ℕ
 total [] = 0

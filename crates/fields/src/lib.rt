@@ -3,9 +3,8 @@ ghost use mathlib.Core.Path.{_≡_};
 ghost use Prim.Native.Nat.{_+_, _^_, _≤_, _<_};
 ghost use lib.ListN.{length};
 ghost use lib.Seq.{sets};
-ghost use Rattle.words.specs.Bytes.{little, number, numbers};
+ghost use Rattle.words.specs.Bytes.{little, number, numbers, part};
 ghost use Rattle.fields.specs.Fields;
-ghost use Rattle.fields.specs.Fields.{part};
 
 // The k low bytes of n, low byte first, at a place. Every other byte stays.
 pub fn put(out: &mut [u8], at: usize, k: usize, n: u64)
@@ -78,9 +77,9 @@ pub fn check(s: &[u8]) -> u32
 }
 
 // Whether k bytes are all zero. Each of them is looked at.
-pub fn blank(s: &[u8], at: usize, k: usize) -> bool
+pub fn all_zero(s: &[u8], at: usize, k: usize) -> bool
     requires { ⌜ at + k ≤ length (now s) ⌝ }
-    ensures { λ r. ⌜ r ≡ Fields.blank (part at k (now (s .entry))) ⌝ }
+    ensures { λ r. ⌜ r ≡ Fields.all-zero (part at k (now (s .entry))) ⌝ }
 {
     let mut all = true;
     let mut i: usize = 0;

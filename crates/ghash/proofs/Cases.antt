@@ -6,7 +6,7 @@ use lib.ListN.{replicate}
 use Rattle.words.specs.Xor.{_⊕_, xors}
 use Rattle.words.specs.Bytes.{IsBlock}
 use Rattle.ghash.specs.Field.{timesX, steps, product}
-use Rattle.ghash.specs.Hash.{big, bigs, _•_, eat, eats, blocks, hashFrom, ghash}
+use Rattle.ghash.specs.Hash.{big, bigs, _•_, eat, eats, blocks-of, hashFrom, ghash}
 use Rattle.ghash.proofs.BigEndian.{big-lt, bigs-big}
 use Rattle.ghash.proofs.Product.{one, one-product, product-one}
 
@@ -40,5 +40,5 @@ Published =
     ≡ bigs 16 0xf38cbb1ad69223dcc3457ae5b6b0f885
 
 pub published-is : Published
-unfolding hashFrom blocks eats eat _•_ product steps timesX _⊕_ xors big bigs
+unfolding hashFrom blocks-of eats eat _•_ product steps timesX _⊕_ xors big bigs
 published-is = refl

@@ -10,7 +10,7 @@ use lib.Seq.{take-all, take-append-le, drop-append-le}
 use Rattle.words.specs.Xor.{_⊕_, xors}
 use Rattle.words.specs.Bytes.{IsBlock}
 use Rattle.ghash.specs.Field.{product}
-use Rattle.ghash.specs.Hash.{big, bigs, _•_, eat, eats, blocks, hashFrom}
+use Rattle.ghash.specs.Hash.{big, bigs, _•_, eat, eats, blocks-of, hashFrom}
 use Rattle.ghash.specs.Machine.{numberOf, bytesOfElement}
 use Rattle.ghash.specs.declared.Element.{Element}
 use Rattle.ghash.proofs.BigEndian.{bigs-row, big-xors}
@@ -33,18 +33,18 @@ eats-block h y (x ∷ xs) b = eats-block h (eat h y x) xs (eat-block h y x)
 
 pub hashFrom-block : (h y s : List ℕ) → IsBlock y → IsBlock (hashFrom h y s)
 unfolding hashFrom
-hashFrom-block h y s b = eats-block h y (blocks (length s / 16) s) b
+hashFrom-block h y s b = eats-block h y (blocks-of (length s / 16) s) b
 
 -- ---- a string's hash goes on
 
-blocks-append : (m n : ℕ) (s t : List ℕ) → length s ≡ m * 16 → blocks (m + n) (s ++ t) ≡ blocks m s ++ blocks n t
-unfolding blocks
-blocks-append zero n [] t e = ap (λ (k : ℕ). blocks k t) (zero-add n)
-blocks-append zero n (b ∷ s) t e = absurd (omega arith)
-blocks-append (suc m) n s t e =
-    ap (λ (k : ℕ). blocks k (s ++ t)) (suc-add m n)
+blocks-of-append : (m n : ℕ) (s t : List ℕ) → length s ≡ m * 16 → blocks-of (m + n) (s ++ t) ≡ blocks-of m s ++ blocks-of n t
+unfolding blocks-of
+blocks-of-append zero n [] t e = ap (λ (k : ℕ). blocks-of k t) (zero-add n)
+blocks-of-append zero n (b ∷ s) t e = absurd (omega arith)
+blocks-of-append (suc m) n s t e =
+    ap (λ (k : ℕ). blocks-of k (s ++ t)) (suc-add m n)
     ∙ ap₂ (λ (x : List ℕ) (l : List (List ℕ)). x ∷ l) (take-append-le 16 s t (omega arith))
-    (ap (blocks (m + n)) (drop-append-le 16 s t (omega arith)) ∙ blocks-append m n (drop 16 s) t (simp length-drop (omega arith)))
+    (ap (blocks-of (m + n)) (drop-append-le 16 s t (omega arith)) ∙ blocks-of-append m n (drop 16 s) t (simp length-drop (omega arith)))
 
 eats-append : (h y : List ℕ) (xs zs : List (List ℕ)) → eats h y (xs ++ zs) ≡ eats h (eats h y xs) zs
 unfolding eats
@@ -56,15 +56,15 @@ unfolding hashFrom
 hash-append h y s t e =
     let n : length (s ++ t) / 16 ≡ length s / 16 + length t / 16 = rw (length-append s t) (omega arith) in
     let m : length s ≡ length s / 16 * 16 = omega arith in
-    ap (eats h y) (ap (λ (k : ℕ). blocks k (s ++ t)) n ∙ blocks-append (length s / 16) (length t / 16) s t m)
-    ∙ eats-append h y (blocks (length s / 16) s) (blocks (length t / 16) t)
+    ap (eats h y) (ap (λ (k : ℕ). blocks-of k (s ++ t)) n ∙ blocks-of-append (length s / 16) (length t / 16) s t m)
+    ∙ eats-append h y (blocks-of (length s / 16) s) (blocks-of (length t / 16) t)
 
 pub hash-none : (h y : List ℕ) → hashFrom h y [] ≡ y
-unfolding hashFrom blocks eats
+unfolding hashFrom blocks-of eats
 hash-none h y = refl
 
 pub hash-one : (h y x : List ℕ) → length x ≡ 16 → hashFrom h y x ≡ eat h y x
-unfolding hashFrom blocks eats
+unfolding hashFrom blocks-of eats
 hash-one h y x e = rw e (ap (eat h y) (take-all 16 x (omega arith)))
 
 -- ---- the code's step

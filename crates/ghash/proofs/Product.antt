@@ -8,27 +8,8 @@ use native.Mathlib.Numerals.{one-add}
 use lib.Dec.{lit<}
 use lib.Pow.{mod-pow-add, pow-pos, shr-le, shr-shr}
 use Rattle.words.specs.Xor.{_⊕_}
-use Rattle.words.proofs.XorLaws.{xor, bit, ⊕-zero-l, ⊕-zero-r, ⊕-self, ⊕-lt, ⊕-shr, ⊕-mod, ⊕-shifted}
+use Rattle.words.proofs.XorLaws.{xor, odd, bit-lt, bit-sum, ⊕-zero-l, ⊕-zero-r, ⊕-self, ⊕-lt, ⊕-shifted}
 use Rattle.ghash.specs.Field.{R, timesX, steps, product}
-
-odd : (n : ℕ) → n % 2 < 2
-odd n = mod-lt n (lit< tt)
-
--- ---- a bit as a factor
-
-bit-mul : (p q v : ℕ) → p < 2 → q < 2 → (p ⊕ q) * v ≡ p * v ⊕ q * v
-bit-mul p q v hp hq =
-    bit (λ p. (p ⊕ q) * v ≡ p * v ⊕ q * v) p hp (simp (zero-mul, ⊕-zero-l))
-    (bit (λ q. (1 ⊕ q) * v ≡ 1 * v ⊕ q * v) q hq (simp (zero-mul, ⊕-zero-r)) (simp (⊕-self, zero-mul)))
-
-bit-lt : (b v m : ℕ) → b < 2 → v < m → b * v < m
-bit-lt b v m hb h = bit (λ b. b * v < m) b hb (rw zero-mul (omega arith)) (rw one-mul h)
-
--- the bit at a place of a sum
-bit-sum : (x y n v : ℕ) → ((x ⊕ y) / 2 ^ n % 2) * v ≡ (x / 2 ^ n % 2) * v ⊕ (y / 2 ^ n % 2) * v
-bit-sum x y n v =
-    ap (λ (b : ℕ). b * v) (ap (λ (s : ℕ). s % 2) (⊕-shr x y n) ∙ ⊕-mod (x / 2 ^ n) (y / 2 ^ n) 1)
-    ∙ bit-mul (x / 2 ^ n % 2) (y / 2 ^ n % 2) v (odd (x / 2 ^ n)) (odd (y / 2 ^ n))
 
 -- ---- what n steps add to Z
 
@@ -126,13 +107,13 @@ product-one x h = product-rest x one ∙ rest-one 127 x ∙ mod-eq-of-lt h
 
 timesX-lt : (v : ℕ) → v < 2 ^ 128 → timesX v < 2 ^ 128
 unfolding timesX
-timesX-lt v h = ⊕-lt 128 (v / 2) ((v % 2) * R) (lt-of-le-of-lt (shr-le v 1) h) (bit-lt (v % 2) R (2 ^ 128) (odd v) (lit< tt))
+timesX-lt v h = ⊕-lt 128 (v / 2) ((v % 2) * R) (lt-of-le-of-lt (shr-le v 1) h) (bit-lt (2 ^ 128) R (v % 2) (lit< tt) (odd v))
 
 rest-lt : (n x v : ℕ) → v < 2 ^ 128 → rest n x v < 2 ^ 128
 rest-lt zero x v h = rw (rest-none x v) (lit< tt)
 rest-lt (suc n) x v h =
     rw (rest-more n x v)
-    (⊕-lt 128 ((x / 2 ^ n % 2) * v) (rest n x (timesX v)) (bit-lt (x / 2 ^ n % 2) v (2 ^ 128) (odd (x / 2 ^ n)) h) (rest-lt n x (timesX v) (timesX-lt v h)))
+    (⊕-lt 128 ((x / 2 ^ n % 2) * v) (rest n x (timesX v)) (bit-lt (2 ^ 128) v (x / 2 ^ n % 2) h (odd (x / 2 ^ n))) (rest-lt n x (timesX v) (timesX-lt v h)))
 
 pub product-lt : (x h : ℕ) → h < 2 ^ 128 → product x h < 2 ^ 128
 product-lt x h l = rw (product-rest x h) (rest-lt 128 x h l)

@@ -1,9 +1,10 @@
 -- GHASH of a string of bytes, NIST SP 800-38D, section 6.4: Algorithm 2. A block is 16 bytes here, and byte 0 is its leftmost, as document 01,
 -- "Tag arithmetic", has it. Strings that are no whole number of blocks are left out: whoever hashes pads first.
 use Prim.Native.Nat.{ℕ, zero, suc, _+_, _*_, _/_, _%_, _^_}
-use mathlib.Core.List.{List, [], _∷_}
-use lib.ListN.{length, take, drop, replicate}
+use mathlib.Core.List.{List, [], _∷_, _++_}
+use lib.ListN.{length, take, drop}
 use Rattle.words.specs.Xor.{xors}
+use Rattle.words.specs.Bytes.{zeros}
 use Rattle.ghash.specs.Field.{product}
 
 -- the number that bytes spell, high byte first
@@ -15,6 +16,11 @@ big (b ∷ s) = b * 256 ^ length s + big s
 unfoldable pub bigs : ℕ → ℕ → List ℕ
 bigs zero n = []
 bigs (suc k) n = n / 256 ^ k % 256 ∷ bigs k n
+
+-- the last block of what is hashed for a tag: the lengths in bytes of data and text, each in bits, 64 bits, high byte first (section 7.1,
+-- step 5)
+abbrev pub lengths : (ad text : ℕ) → List ℕ
+lengths d t = bigs 8 (d * 8) ++ bigs 8 (t * 8)
 
 -- X • Y of blocks as bytes
 infixl 70 _•_
@@ -31,14 +37,14 @@ eats h y [] = y
 eats h y (x ∷ xs) = eats h (eat h y x) xs
 
 -- the first m blocks of a string
-unfoldable pub blocks : ℕ → List ℕ → List (List ℕ)
-blocks zero s = []
-blocks (suc m) s = take 16 s ∷ blocks m (drop 16 s)
+unfoldable pub blocks-of : ℕ → List ℕ → List (List ℕ)
+blocks-of zero s = []
+blocks-of (suc m) s = take 16 s ∷ blocks-of m (drop 16 s)
 
 -- the whole blocks of a string, from Y on
 unfoldable pub hashFrom : (h y s : List ℕ) → List ℕ
-hashFrom h y s = eats h y (blocks (length s / 16) s)
+hashFrom h y s = eats h y (blocks-of (length s / 16) s)
 
 -- GHASH under H: from the zero block on
 abbrev pub ghash : (h s : List ℕ) → List ℕ
-ghash h s = hashFrom h (replicate 16 0) s
+ghash h s = hashFrom h zeros s

@@ -167,10 +167,18 @@ pub fn to_block(e: Element) -> Block
     }
 }
 
-// One block more: (y ⊕ x) • h.
+// One element more: (y ⊕ x) • h.
+pub fn absorb_element(y: Element, x: Element, h: Element, t: &[u64; 1024]) -> Element
+    requires { ⌜ Tables (numberOf h) (now t) ⌝ }
+    ensures { λ r. ⌜ bytesOfElement r ≡ eat (bytesOfElement h) (bytesOfElement y) (bytesOfElement x) ⌝ }
+{
+    times(xor(y, x), h, t)
+}
+
+// The same for a block of the cipher.
 pub fn absorb(y: Element, x: Block, h: Element, t: &[u64; 1024]) -> Element
     requires { ⌜ Tables (numberOf h) (now t) ⌝ }
     ensures { λ r. ⌜ bytesOfElement r ≡ eat (bytesOfElement h) (bytesOfElement y) (bytesOf x) ⌝ }
 {
-    times(xor(y, from_block(x)), h, t)
+    absorb_element(y, from_block(x), h, t)
 }

@@ -6,15 +6,14 @@ use native.Mathlib.Omega.{arith}
 use lib.Dec.{lit≤}
 use lib.ListN.{length, take, drop, take-append-drop}
 use lib.Seq.{sets}
-use Rattle.words.specs.Bytes.{littles, numbers}
+use Rattle.words.specs.Bytes.{littles, numbers, part}
 use Rattle.words.specs.declared.Block.{Block}
 use Rattle.words.specs.Machine.{bytesOf}
 use Rattle.words.proofs.Rows.{row-append}
 use Rattle.words.proofs.Bytes.{littles-append}
 use Rattle.words.proofs.Blocks.{bytesOf-block}
-use Rattle.fields.specs.Fields.{part}
-use Rattle.fields.proofs.Parts.{part-part}
-use Rattle.fields.proofs.Writing.{put-next}
+use Rattle.words.proofs.Parts.{part-part}
+use Rattle.words.proofs.Writing.{put-next}
 use Rattle.cipher.specs.declared.State.{State}
 use Rattle.cipher.specs.Registers.{Registers}
 use Rattle.cipher.specs.Machine.{registersOf}

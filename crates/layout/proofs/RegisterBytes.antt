@@ -6,11 +6,10 @@ use native.Mathlib.Omega.{arith}
 use lib.Dec.{lit<, lit≤}
 use lib.ListN.{length}
 use lib.Seq.{take-all}
-use Rattle.words.specs.Bytes.{littles, numbers, Row, IsBlock}
+use Rattle.words.specs.Bytes.{littles, numbers, Row, IsBlock, part}
 use Rattle.words.proofs.Rows.{row-append}
 use Rattle.words.proofs.Bytes.{littles-long, littles-below, littles-numbers, numbers-littles, numbers-row}
-use Rattle.fields.specs.Fields.{part}
-use Rattle.fields.proofs.Parts.{part-row, At, down, here, grow}
+use Rattle.words.proofs.Parts.{part-row, At, down, here, grow}
 use Rattle.cipher.specs.Registers.{Registers, Good}
 use Rattle.layout.specs.Block.{registers-bytes, registers-at}
 

@@ -9,13 +9,13 @@ use borrow.Author.Tests.{eq-eqb, eqb-true, leb-true}
 use lib.ListN.{length, take, drop, getD, replicate, take-append-drop}
 use lib.Seq.{take-all, take-suc, length-take-le}
 use Rattle.scope.specs.Limits.{most-data, most-text}
-use Rattle.words.specs.Bytes.{little, number, Row}
+use Rattle.words.specs.Bytes.{little, number, Row, part}
 use Rattle.words.proofs.Rows.{Below}
 use Rattle.words.proofs.Bytes.{little-number}
-use Rattle.fields.specs.Fields.{part, blank, check}
-use Rattle.fields.proofs.Parts.{part-row, grow}
+use Rattle.words.proofs.Parts.{part-row, grow}
+use Rattle.fields.specs.Fields.{all-zero, check}
 use Rattle.fields.proofs.Reading.{check-front}
-use Rattle.fields.proofs.Blanks.{blank-zeros, blank-behind}
+use Rattle.fields.proofs.Zeros.{all-zero-zeros, all-zero-behind}
 use Rattle.layout.specs.Block.{body, block-of, read}
 use Rattle.layout.specs.Rules.{phase-length, rules, well-laid, Fine}
 use Rattle.layout.proofs.RegisterBytes.{bytes-back, at-good}
@@ -35,8 +35,8 @@ module _ (s : List ℕ) (h : Below 256 s) (w : well-laid s ≡ true) where
   word : (at k : ℕ) → at + k ≤ 512 → little k (number (part at k s)) ≡ part at k s
   word at k q = little-number k (part at k s) (row at k q)
 
-  zeros : (at k : ℕ) → at + k ≤ 512 → blank (part at k s) ≡ true → replicate k 0 ≡ part at k s
-  zeros at k q e = blank-zeros k (part at k s) (row at k q .long) e
+  zeros : (at k : ℕ) → at + k ≤ 512 → all-zero (part at k s) ≡ true → replicate k 0 ≡ part at k s
+  zeros at k q e = all-zero-zeros k (part at k s) (row at k q .long) e
 
   first : (getD s 0 0 ∷ []) ≡ take 1 s
   first = sym (take-suc s 0 0 (rw long (lit< tt)))
@@ -76,5 +76,5 @@ module _ (s : List ℕ) (h : Below 256 s) (w : well-laid s ≡ true) where
         registers-good = at-good (part 16 112 s) (row 16 112 (lit≤ tt));
         hash-block = row 128 16 (lit≤ tt);
         pending-block = row 144 16 (lit≤ tt);
-        zeros-behind = blank-behind (phase-length (getD s 0 0) (number (part 4 4 s)) (number (part 8 4 s)) % 16) (part 144 16 s) (rule s 5 w);
+        zeros-behind = all-zero-behind (phase-length (getD s 0 0) (number (part 4 4 s)) (number (part 8 4 s)) % 16) (part 144 16 s) (rule s 5 w);
       }

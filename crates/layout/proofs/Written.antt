@@ -9,32 +9,24 @@ use native.Mathlib.Omega.{arith}
 use lib.Dec.{lit<, eqb}
 use borrow.Author.Tests.{eq-eqb, le-leb, eqb-true}
 use lib.ListN.{length, getD, replicate, length-replicate}
-use Rattle.words.specs.Bytes.{little, number, Row}
-use Rattle.words.proofs.Rows.{Below, row-append}
+use Rattle.words.specs.Bytes.{little, number, Row, part, joined}
+use Rattle.words.proofs.Rows.{Below, zeros-row, row-append}
 use Rattle.words.proofs.Bytes.{little-long, little-row, number-little}
-use Rattle.fields.specs.Fields.{part, check}
-use Rattle.fields.proofs.Parts.{At, join, down, here}
+use Rattle.words.proofs.Parts.{At, down, here}
+use Rattle.fields.specs.Fields.{check}
 use Rattle.fields.proofs.Reading.{check-lt, check-front}
-use Rattle.fields.proofs.Blanks.{zeros-blank, behind-blank}
+use Rattle.fields.proofs.Zeros.{zeros-all-zero, behind-all-zero}
 use Rattle.layout.specs.Block.{Kept, registers-bytes, registers-at, body, block-of, read}
 use Rattle.layout.specs.Rules.{rules, well-laid, Fine}
 use Rattle.layout.proofs.RegisterBytes.{good-row, registers-back}
 use Rattle.layout.proofs.Obeying.{ten}
 
 regroup : (f0 f1 f2 f3 f4 f5 f6 f7 f8 f9 : List ℕ)
-    → f0 ++ f1 ++ f2 ++ f3 ++ f4 ++ f5 ++ f6 ++ f7 ++ f8 ++ f9 ≡ join (f0 ∷ f1 ∷ f2 ∷ f3 ∷ f4 ∷ f5 ∷ f6 ∷ f7 ∷ f8 ∷ f9 ∷ [])
+    → f0 ++ f1 ++ f2 ++ f3 ++ f4 ++ f5 ++ f6 ++ f7 ++ f8 ++ f9 ≡ joined (f0 ∷ f1 ∷ f2 ∷ f3 ∷ f4 ∷ f5 ∷ f6 ∷ f7 ∷ f8 ∷ f9 ∷ [])
 regroup f0 f1 f2 f3 f4 f5 f6 f7 f8 f9 = simp (append-assoc, append-nil)
 
 zeros-long : (n : ℕ) → length (replicate {A = ℕ} n 0) ≡ n
 zeros-long n = length-replicate {A = ℕ} n 0
-
-zeros-row : (n : ℕ) → Row n 256 (replicate n 0)
-zeros-row n = record { long = zeros-long n; below = small n }
-  where
-    small : (n : ℕ) → Below 256 (replicate n 0)
-    small zero i = lit< tt
-    small (suc n) zero = lit< tt
-    small (suc n) (suc i) = small n i
 
 one-row : (b : ℕ) → b ≤ 1 → Row 1 256 (b ∷ [])
 one-row b h = record { long = refl; below = small }
@@ -47,14 +39,14 @@ module _ (k : Kept) (f : Fine k) where
   body-row : Row 508 256 (body k)
   unfolding body
   body-row =
-      let r4 = row-append 256 1 3 (one-row (k .phase) (f .phase-is)) (zeros-row 3) in
+      let r4 = row-append 256 1 3 (one-row (k .phase) (f .phase-is)) (zeros-row 3 256 (lit< tt)) in
       let r8 = row-append 256 4 4 r4 (little-row 4 (k .ad)) in
       let r12 = row-append 256 8 4 r8 (little-row 4 (k .text)) in
-      let r16 = row-append 256 12 4 r12 (zeros-row 4) in
+      let r16 = row-append 256 12 4 r12 (zeros-row 4 256 (lit< tt)) in
       let r128 = row-append 256 16 112 r16 (good-row (k .registers) (f .registers-good)) in
       let r144 = row-append 256 128 16 r128 (f .hash-block) in
       let r160 = row-append 256 144 16 r144 (f .pending-block) in
-      row-append 256 160 348 r160 (zeros-row 348)
+      row-append 256 160 348 r160 (zeros-row 348 256 (lit< tt))
 
   -- 512 bytes
   pub block-row : Row 512 256 (block-of k)
@@ -147,8 +139,8 @@ module _ (k : Kept) (f : Fine k) where
       (le-leb _ _ (f .ad-fits))
       (le-leb _ _ (f .text-fits))
       text-rule
-      (rw (places .in-144) (behind-blank _ (k .sum .pending) (f .zeros-behind)))
-      (rw (places .in-1) (zeros-blank 3))
-      (rw (places .in-12) (zeros-blank 4))
-      (rw (places .in-160) (zeros-blank 348))
+      (rw (places .in-144) (behind-all-zero _ (k .sum .pending) (f .zeros-behind)))
+      (rw (places .in-1) (zeros-all-zero 3))
+      (rw (places .in-12) (zeros-all-zero 4))
+      (rw (places .in-160) (zeros-all-zero 348))
       (eq-eqb _ _ check-block))

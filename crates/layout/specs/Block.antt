@@ -4,8 +4,8 @@
 use Prim.Native.Nat.{ℕ}
 use mathlib.Core.List.{List, [], _∷_, _++_}
 use lib.ListN.{getD, replicate}
-use Rattle.words.specs.Bytes.{little, number, littles, numbers}
-use Rattle.fields.specs.Fields.{part, check}
+use Rattle.words.specs.Bytes.{little, number, littles, numbers, part}
+use Rattle.fields.specs.Fields.{check}
 use Rattle.cipher.specs.Registers.{Registers}
 use Rattle.digest.specs.Digest.{Sum}
 

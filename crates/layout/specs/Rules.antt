@@ -8,8 +8,8 @@ use lib.Dec.{eqb, leb}
 use lib.ListN.{getD, length, drop}
 use Rattle.scope.specs.Limits.{most-data, most-text}
 use Rattle.scope.specs.Refusals.{pick}
-use Rattle.words.specs.Bytes.{number, IsBlock}
-use Rattle.fields.specs.Fields.{part, blank, check}
+use Rattle.words.specs.Bytes.{number, IsBlock, part}
+use Rattle.fields.specs.Fields.{all-zero, check}
 use Rattle.cipher.specs.Registers.{Good}
 use Rattle.layout.specs.Block.{Kept, read}
 
@@ -29,11 +29,11 @@ rules b =
     -- zero "and so are .. the text length in phase 0"
     ∷ (not (eqb (read b .phase) 0) || eqb (read b .text) 0)
     -- zero "and so are bytes 144-159 past (the phase's length modulo 16)"
-    ∷ blank (drop (phase-length (read b .phase) (read b .ad) (read b .text) % 16) (part 144 16 b))
+    ∷ all-zero (drop (phase-length (read b .phase) (read b .ad) (read b .text) % 16) (part 144 16 b))
     -- "All other bytes are zero"
-    ∷ blank (part 1 3 b)
-    ∷ blank (part 12 4 b)
-    ∷ blank (part 160 348 b)
+    ∷ all-zero (part 1 3 b)
+    ∷ all-zero (part 12 4 b)
+    ∷ all-zero (part 160 348 b)
     -- "508-511 check"
     ∷ eqb (number (part 508 4 b)) (check b)
     ∷ []

@@ -25,10 +25,10 @@ pub fn well_laid(block: &[u8]) -> bool
     let ad = fields::get(block, 4, 4);
     let text = fields::get(block, 8, 4);
     let n = pending_count(phase, ad, text);
-    let behind = fields::blank(block, 144 + n, 16 - n);
-    let zero1 = fields::blank(block, 1, 3);
-    let zero12 = fields::blank(block, 12, 4);
-    let zero160 = fields::blank(block, 160, 348);
+    let behind = fields::all_zero(block, 144 + n, 16 - n);
+    let zero1 = fields::all_zero(block, 1, 3);
+    let zero12 = fields::all_zero(block, 12, 4);
+    let zero160 = fields::all_zero(block, 160, 348);
     let stored = fields::word(block, 508);
     let sum = fields::check(block);
     (phase <= 1)

@@ -1,7 +1,7 @@
 -- Maps of cells that are linear over xor: two of them that agree on the sixteen powers of two agree on every cell, since every cell is a xor
 -- of such powers. So an equation between two is shown by one computed test.
 use mathlib.Core.Path.{_≡_, refl, sym, ap, ap₂, _∙_}
-use mathlib.Core.Bool.{Bool, true, false, _&&_}
+use mathlib.Core.Bool.{Bool, true, _&&_}
 use Prim.Native.Nat.{ℕ, zero, suc, _*_, _/_, _%_, _^_, _<_, _≤_}
 use native.Mathlib.Omega.{arith}
 use native.Mathlib.Nat.{zero-mul, one-mul, mod-lt}
@@ -10,9 +10,10 @@ use lib.Pow.{pow-pos, pow-lt, split, shr-lt}
 use native.Mathlib.Numerals.{one-add}
 use lib.Arith.{lt-one}
 use Rattle.words.specs.Xor.{_⊕_}
+use Rattle.words.proofs.XorLaws.{⊕-shr, ⊕-mod, ⊕-lt, ⊕-self, ⊕-shifted, ⊕-zero-l, ⊕-shl, ⊕-double, xor, bit, bit-lt, bit-times, bit-sum}
+use Rattle.words.proofs.Tests.{both-left, both-right}
 use Rattle.lfsr.specs.Cells.{times}
-use Rattle.words.proofs.XorLaws.{⊕-shr, ⊕-mod, ⊕-lt, ⊕-self, ⊕-shifted, ⊕-zero-l, ⊕-shl, ⊕-double, xor, bit}
-use Rattle.lfsr.proofs.Root.{bit-lt, bit-times, times-lt}
+use Rattle.lfsr.proofs.Root.{times-lt}
 
 pub record Linear (f : ℕ → ℕ) : Type 0 where
   pub keeps : (x : ℕ) → x < 2 ^ 16 → f x < 2 ^ 16
@@ -35,14 +36,6 @@ linear-sum {f} {g} lf lg =
       adds = λ x y hx hy. simp (lf .adds x y hx hy, lg .adds x y hx hy, xor);
     }
 
-and-left : (a b : Bool) → T (a && b) → T a
-and-left true b t = tt
-and-left false b t = t
-
-and-right : (a b : Bool) → T (a && b) → T b
-and-right true b t = t
-and-right false b t = absurd t
-
 -- f and g agree on the k lowest powers of two: a test that antt computes
 abbrev pub agree : (f g : ℕ → ℕ) → ℕ → Bool
 agree f g zero = true
@@ -55,8 +48,8 @@ module _ {f g : ℕ → ℕ} (lf : Linear f) (lg : Linear g) where
   upto : (k : ℕ) → k ≤ 16 → T (agree f g k) → (x : ℕ) → x < 2 ^ k → f x ≡ g x
   upto zero hk t x hx = rw (lt-one hx) (linear-zero lf ∙ sym (linear-zero lg))
   upto (suc k) hk t x hx =
-      let p : f (2 ^ k) ≡ g (2 ^ k) = eqb→eq (f (2 ^ k)) (g (2 ^ k)) (and-left (eqb (f (2 ^ k)) (g (2 ^ k))) (agree f g k) t) in
-      let low : (y : ℕ) → y < 2 ^ k → f y ≡ g y = upto k (omega arith) (and-right (eqb (f (2 ^ k)) (g (2 ^ k))) (agree f g k) t) in
+      let p : f (2 ^ k) ≡ g (2 ^ k) = eqb→eq (f (2 ^ k)) (g (2 ^ k)) (both-left (eqb (f (2 ^ k)) (g (2 ^ k))) (agree f g k) t) in
+      let low : (y : ℕ) → y < 2 ^ k → f y ≡ g y = upto k (omega arith) (both-right (eqb (f (2 ^ k)) (g (2 ^ k))) (agree f g k) t) in
       let r : x % 2 ^ k < 2 ^ k = mod-lt x (pow-pos k) in
       let b : 2 ^ k < 2 ^ 16 = pow-lt hk in
       let e : x ≡ x / 2 ^ k * 2 ^ k ⊕ x % 2 ^ k = sym (split x k) ∙ sym (⊕-shifted (x / 2 ^ k) k (x % 2 ^ k) r) in
@@ -82,10 +75,8 @@ linear-shl k =
 pub linear-bit : (i c : ℕ) → c < 2 ^ 16 → Linear (λ x. x / 2 ^ i % 2 * c)
 linear-bit i c h =
     record {
-      keeps = λ x hx. bit-lt c (x / 2 ^ i % 2) h (omega arith);
-      adds = λ x y hx hy.
-          ap (λ (z : ℕ). z * c) (ap (λ (z : ℕ). z % 2) (⊕-shr x y i) ∙ ⊕-mod (x / 2 ^ i) (y / 2 ^ i) 1)
-          ∙ bit-times c (x / 2 ^ i % 2) (y / 2 ^ i % 2) (omega arith) (omega arith);
+      keeps = λ x hx. bit-lt (2 ^ 16) c (x / 2 ^ i % 2) h (omega arith);
+      adds = λ x y hx hy. bit-sum x y i c;
     }
 
 pub linear-times : (c : ℕ) → c < 2 ^ 16 → Linear (times c)

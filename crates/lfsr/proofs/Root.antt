@@ -6,26 +6,16 @@ use native.Mathlib.Omega.{arith}
 use native.Mathlib.Nat.{zero-mul, one-mul}
 use lib.Dec.{lit<}
 use Rattle.words.specs.Xor.{_⊕_}
+use Rattle.words.proofs.XorLaws.{⊕-half, ⊕-odd, ⊕-shr, ⊕-mod, ⊕-lt, ⊕-zero-l, ⊕-zero-r, ⊕-double, ⊕-comm, ⊕-top, ⊕-one, xor, bit-lt}
 use Rattle.lfsr.specs.Cells.{times, over, alpha, alpha⁻¹, beta, beta⁻¹}
-use Rattle.words.proofs.XorLaws.{⊕-half, ⊕-odd, ⊕-shr, ⊕-mod, ⊕-lt, ⊕-zero-l, ⊕-zero-r, ⊕-double, ⊕-comm, ⊕-top, ⊕-one, xor, bit}
-
-pub bit-lt : (c t : ℕ) → c < 2 ^ 16 → t < 2 → t * c < 2 ^ 16
-bit-lt c t hc ht = bit (λ (t : ℕ). t * c < 2 ^ 16) t ht (omega arith) (omega arith)
 
 pub times-lt : (c x : ℕ) → c < 2 ^ 16 → x < 2 ^ 16 → times c x < 2 ^ 16
 unfolding times
-times-lt c x hc hx = ⊕-lt 16 (x * 2 % 2 ^ 16) (x / 2 ^ 15 * c) (omega arith) (bit-lt c (x / 2 ^ 15) hc (omega arith))
+times-lt c x hc hx = ⊕-lt 16 (x * 2 % 2 ^ 16) (x / 2 ^ 15 * c) (omega arith) (bit-lt (2 ^ 16) c (x / 2 ^ 15) hc (omega arith))
 
 pub over-lt : (d x : ℕ) → d < 2 ^ 16 → x < 2 ^ 16 → over d x < 2 ^ 16
 unfolding over
-over-lt d x hd hx = ⊕-lt 16 (x / 2) (x % 2 * d) (omega arith) (bit-lt d (x % 2) hd (omega arith))
-
--- a bit times c, of the xor of two bits
-pub bit-times : (c s t : ℕ) → s < 2 → t < 2 → (s ⊕ t) * c ≡ s * c ⊕ t * c
-bit-times c s t hs ht =
-    bit (λ (s : ℕ). (s ⊕ t) * c ≡ s * c ⊕ t * c) s hs
-    (bit (λ (t : ℕ). (0 ⊕ t) * c ≡ 0 * c ⊕ t * c) t ht (simp (xor, zero-mul)) (simp (xor, zero-mul, one-mul)))
-    (bit (λ (t : ℕ). (1 ⊕ t) * c ≡ 1 * c ⊕ t * c) t ht (simp (xor, zero-mul, one-mul)) (simp (xor, zero-mul, one-mul)))
+over-lt d x hd hx = ⊕-lt 16 (x / 2) (x % 2 * d) (omega arith) (bit-lt (2 ^ 16) d (x % 2) hd (omega arith))
 
 module _ (c : ℕ) (odd : c % 2 ≡ 1) (small : c < 2 ^ 16) where
   pub over-times : (x : ℕ) → x < 2 ^ 16 → over (c / 2 + 2 ^ 15) (times c x) ≡ x

@@ -1,19 +1,18 @@
 -- Eight clocks back, a cell of each register at a time, from the highest: what is found are cells that eight clocks take to the given state,
 -- and only one state is taken there.
-use mathlib.Core.Path.{_≡_, refl, sym, ap, ap₂, subst, _∙_}
-use mathlib.Core.List.{List, [], _∷_, _++_}
+use mathlib.Core.Path.{_≡_, sym, ap, ap₂, subst, _∙_}
+use mathlib.Core.List.{List, _++_}
 use mathlib.Core.Logic.{⊎-elim}
-use Prim.Native.Nat.{ℕ, zero, suc, _+_, _^_, _<_, _≤_}
+use Prim.Native.Nat.{ℕ, _+_, _^_, _<_, _≤_}
 use native.Mathlib.Omega.{arith}
 use native.Mathlib.Nat.{eq-or-lt-of-le}
 use native.Mathlib.Numerals.{add-eight}
 use lib.Dec.{lit<}
-use lib.ListN.{set, take, replicate, length-set}
+use lib.ListN.{set, take, replicate}
 use lib.Seq.{getD-set-same, getD-set-other, getD-take}
 use Rattle.words.specs.Xor.{_⊕_}
-use Rattle.words.specs.Bytes.{Row}
 use Rattle.words.proofs.XorLaws.{⊕-lt, ⊕-twice}
-use Rattle.words.proofs.Rows.{Below, row-take, row-append, below-test}
+use Rattle.words.proofs.Rows.{row-take, row-append, row-set, zeros-row}
 use Rattle.lfsr.specs.declared.Lfsr.{Lfsr}
 use Rattle.lfsr.specs.Clock.{Taps, Good, cell}
 use Rattle.lfsr.specs.Unclock.{oldA, oldB, unclocks}
@@ -34,18 +33,10 @@ raised l = replicate 8 0 ++ take 8 l
 
 raised-register : (l : List ℕ) → Register l → Register (raised l)
 raised-register l r =
-    let zeros : Row 8 65536 (replicate 8 0) = record { long = refl; below = below-test 65536 (replicate 8 0) (lit< tt) refl } in
-    row-append 65536 8 8 zeros (row-take 65536 16 r 8 (lit< tt) (omega arith))
+    row-append 65536 8 8 (zeros-row 8 65536 (lit< tt)) (row-take 65536 16 r 8 (lit< tt) (omega arith))
 
 raised-at : (l : List ℕ) (k : ℕ) → k < 8 → cell l k ≡ cell (raised l) (k + 8)
 raised-at l k h = sym (getD-take 8 l k 0 h) ∙ ap (cell (raised l)) (sym (add-eight k))
-
-set-below : (l : List ℕ) (i x : ℕ) → Below 65536 l → x < 2 ^ 16 → Below 65536 (set l i x)
-set-below [] i x h p j = lit< tt
-set-below (y ∷ l) zero x h p zero = p
-set-below (y ∷ l) zero x h p (suc j) = h (suc j)
-set-below (y ∷ l) (suc i) x h p zero = h 0
-set-below (y ∷ l) (suc i) x h p (suc j) = set-below l i x (λ k. h (suc k)) p j
 
 module _ {root : ℕ → ℕ} {tap : (ℕ → ℕ) → ℕ} (n : Reads tap) (s : List ℕ) where
   half-none : (other : List ℕ) → Register s → Half root tap s 8 (raised s) other
@@ -75,7 +66,7 @@ module _ {root : ℕ → ℕ} {tap : (ℕ → ℕ) → ℕ} (n : Reads tap) (s :
         = ⊕-twice (cell s (i + 8)) (tap (λ j. cell own (i + j)))
         ∙ ap₂ _⊕_ (sym (ap₂ (λ (p q : ℕ). q ⊕ root p) at at-other ∙ e)) (tapped i (omega arith)) in
         record {
-          cells = record { long = length-set own i x ∙ u .cells .long; below = set-below own i x (u .cells .below) hx };
+          cells = row-set 16 65536 i x hx (u .cells);
           low = λ k q. u .low k q ∙ kept own x (k + 8) (omega arith);
           high = λ k p q. ⊎-elim (λ e. subst (λ (j : ℕ). cell s (j + 8) ≡ made root tap (set own i x) (set other i y) j) e here)
               (λ l. u .high k (omega arith) q ∙ ap₂ _⊕_ (ap₂ (λ (p q : ℕ). q ⊕ root p) (kept own x k l) (kept other y k l)) (tapped k p)) (eq-or-lt-of-le p);

@@ -7,5 +7,5 @@ use Rattle.cipher.specs.Run.{run-part}
 use Rattle.start.specs.declared.Mode.the-variants.{Plain}
 use Rattle.start.specs.Start.{start, start-number, blank}
 
-unfoldable pub part : ℕ → (key iv : List ℕ) → (len : ℕ) → List ℕ
-part back key iv len = run-part (eqb back 1) (granted (start-number key iv) (start key iv Plain) blank) len (len / 16)
+unfoldable pub measured : ℕ → (key iv : List ℕ) → (len : ℕ) → List ℕ
+measured back key iv len = run-part (eqb back 1) (granted (start-number key iv) (start key iv Plain) blank) len (len / 16)

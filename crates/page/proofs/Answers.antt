@@ -8,8 +8,8 @@ use borrow.Author.Tests.{eq-eqb, le-ltb}
 use lib.ListN.{length, drop}
 use Rattle.scope.specs.Limits.{most-data, most-text}
 use Rattle.scope.specs.Refusals.{refuse, bad-tag}
-use Rattle.start.specs.Trace.{same}
-use Rattle.start.proofs.Unloading.{same-refl, same-eq}
+use Rattle.words.specs.Bytes.{same}
+use Rattle.words.proofs.Tests.{same-refl, same-eq}
 use Rattle.page.specs.Page.{cipher-of, tag-for, page-tag}
 use Rattle.page.specs.Calls.{seal-number, seal-out, seal-tag, open-number, open-out}
 

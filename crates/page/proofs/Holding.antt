@@ -6,12 +6,12 @@ use Prim.Native.Nat.{ℕ, zero, suc, _+_, _-_, _%_, _≤_}
 use native.Mathlib.Omega.{arith}
 use lib.ListN.{length, getD, replicate}
 use lib.Seq.{getD-append-add}
-use Rattle.words.specs.Bytes.{Row, IsBlock}
-use Rattle.words.proofs.Rows.{Below}
+use Rattle.words.specs.Bytes.{Row, IsBlock, zeros}
+use Rattle.words.proofs.Rows.{Below, zeros-block}
 use Rattle.cipher.specs.Registers.{Good}
-use Rattle.digest.specs.Digest.{zeros, fresh, absorb}
+use Rattle.digest.specs.Digest.{fresh, absorb}
 use Rattle.digest.proofs.Settling.{rest, rest-long, absorb-pending}
-use Rattle.digest.proofs.Kept.{zeros-block, absorb-hash-block, absorb-pending-block, settled-block}
+use Rattle.digest.proofs.Kept.{absorb-hash-block, absorb-pending-block, settled-block}
 use Rattle.session.specs.Sealing.{drawn-at}
 use Rattle.page.specs.Page.{keystream, cipher-of}
 use Rattle.page.proofs.Phases.{ad-sum}

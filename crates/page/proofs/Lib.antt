@@ -3,6 +3,7 @@ pub mod Ciphertext
 pub mod Stages
 pub mod Tags
 pub mod WholeCalls
+pub mod AtOnce
 pub mod Holding
 pub mod Answers
 pub mod Refusing

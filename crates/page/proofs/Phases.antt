@@ -5,9 +5,10 @@ use mathlib.Core.List.{List, _++_}
 use Prim.Native.Nat.{ℕ, _%_}
 use native.Mathlib.Omega.{arith}
 use lib.ListN.{length, length-append}
+use Rattle.words.specs.Bytes.{zeros}
 use Rattle.ghash.specs.Hash.{eat, hashFrom, ghash}
 use Rattle.ghash.proofs.Hashing.{hash-append, hash-one}
-use Rattle.digest.specs.Digest.{zeros, Sum, fresh, absorb, settled}
+use Rattle.digest.specs.Digest.{Sum, fresh, absorb, settled}
 use Rattle.digest.proofs.Settling.{padded-whole, settled-padded}
 use Rattle.page.specs.Page.{padded}
 

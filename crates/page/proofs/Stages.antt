@@ -11,12 +11,13 @@ use lib.Dec.{eqb}
 use lib.ListN.{length, getD, length-append}
 use Rattle.scope.specs.Refusals.{pick}
 use Rattle.words.specs.Xor.{_⊕_}
+use Rattle.words.specs.Bytes.{zeros}
 use Rattle.cipher.specs.Registers.{Registers}
 use Rattle.cipher.specs.Step.{step}
 use Rattle.cipher.specs.Run.{forward, move, moves}
 use Rattle.start.specs.declared.Mode.the-variants.{Sealed}
 use Rattle.start.specs.Start.{start}
-use Rattle.digest.specs.Digest.{zeros, Sum, fresh, push, absorb, settled}
+use Rattle.digest.specs.Digest.{Sum, fresh, push, absorb, settled}
 use Rattle.digest.proofs.Pieces.{absorb-append, absorb-one}
 use Rattle.session.specs.Sealing.{Sealing, ceil16, drawn-at}
 use Rattle.session.specs.Calls.{begun, data-taken, closed, byte-current, byte-out, byte-taken, text-taken, text-out}

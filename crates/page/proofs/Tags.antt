@@ -5,16 +5,15 @@ use mathlib.Core.List.{List, _++_}
 use Prim.Native.Nat.{ℕ}
 use lib.ListN.{length, length-append}
 use Rattle.words.specs.Xor.{xors}
-use Rattle.words.specs.Bytes.{Row, IsBlock}
-use Rattle.words.proofs.Rows.{xors-row}
-use Rattle.ghash.specs.Hash.{eat}
+use Rattle.words.specs.Bytes.{Row, IsBlock, zeros}
+use Rattle.words.proofs.Rows.{zeros-block, xors-row}
+use Rattle.ghash.specs.Hash.{lengths, eat}
 use Rattle.ghash.proofs.BigEndian.{bigs-long}
 use Rattle.ghash.proofs.Hashing.{hashFrom-block}
-use Rattle.digest.specs.Digest.{zeros, settled}
-use Rattle.digest.proofs.Kept.{zeros-block}
+use Rattle.digest.specs.Digest.{settled}
 use Rattle.session.specs.Sealing.{Sealing}
 use Rattle.session.specs.Calls.{closed, tag-of}
-use Rattle.page.specs.Page.{keystream, cipher-of, padded, lengths, tag-for, page-tag}
+use Rattle.page.specs.Page.{keystream, cipher-of, padded, tag-for, page-tag}
 use Rattle.page.proofs.Phases.{text-sum, phases}
 use Rattle.page.proofs.Ciphertext.{cipher-length, stream-block}
 use Rattle.page.proofs.Stages.{Stage, ad-of, text-of, sum-at, session-at, closed-at}

@@ -1,6 +1,5 @@
--- Each call on a session that a list of calls reaches, as a whole: its number, its output and the session handed back. Begin, one piece of data,
--- one of text and finish give the page's ciphertext and tag.
-use mathlib.Core.Path.{_≡_, refl, ap, _∙_}
+-- Each call on a session that a list of calls reaches, as a whole: its number, its output and the session handed back.
+use mathlib.Core.Path.{_≡_, refl}
 use mathlib.Core.List.{List, [], _++_}
 use mathlib.Core.Bool.{Bool, true, false, not}
 use Prim.Native.Nat.{ℕ, _+_, _≤_, _<_}
@@ -11,8 +10,8 @@ use lib.ListN.{length, drop}
 use Rattle.scope.specs.Limits.{most-data, most-text}
 use Rattle.scope.specs.Refusals.{refuse, out-of-phase, too-long, short-output}
 use Rattle.start.proofs.Answers.{both-right}
-use Rattle.session.specs.Calls.{Given, begin-call, data-number, data-call, text-number, text-call, finish-number, finished, finish-call}
-use Rattle.page.specs.Page.{encrypted, cipher-of, page-tag}
+use Rattle.session.specs.Calls.{begin-call, data-number, data-call, text-number, text-call, finish-number, finished, finish-call}
+use Rattle.page.specs.Page.{encrypted, page-tag}
 use Rattle.page.proofs.Stages.{Stage, Stage.taking-data, Stage.taking-text, ad-of, text-of, phase-at, session-at, begun-at, data-at, closed-at, text-taken-at, text-out-at}
 use Rattle.page.proofs.Tags.{tag-at}
 
@@ -100,18 +99,3 @@ module _ (key iv : List ℕ) where
         ≡ record { number = 0; out = page-tag key iv (ad-of g) (text-of g); session = finished (session-at key iv g) }
     unfolding finish-call
     finish-call-at = rw (finish-number-at, tag-at key iv g)
-
--- ---- a page in one piece of data and one of text
-
-module _ (key iv d t out : List ℕ) (key-long : length key ≡ 32) (iv-long : length iv ≡ 16) (ad-fits : length d ≤ most-data)
-    (text-fits : length t ≤ most-text) (room : length t ≤ length out) where
-  pub page-data : data-call (begin-call key iv .session) d ≡ record { number = 0; out = []; session = session-at key iv (taking-data d) }
-  page-data = ap (λ (g : Given). data-call (g .session) d) (begin-call-at key iv key-long iv-long) ∙ data-call-at key iv [] d (omega arith)
-
-  pub page-text : text-call (data-call (begin-call key iv .session) d .session) t out
-      ≡ record { number = 0; out = cipher-of key iv t ++ drop (length t) out; session = session-at key iv (taking-text d t) }
-  page-text = ap (λ (g : Given). text-call (g .session) t out) page-data ∙ text-call-at key iv (taking-data d) t out (omega arith) room
-
-  pub page-finish : finish-call (text-call (data-call (begin-call key iv .session) d .session) t out .session)
-      ≡ record { number = 0; out = page-tag key iv d t; session = finished (session-at key iv (taking-text d t)) }
-  page-finish = ap (λ (g : Given). finish-call (g .session)) page-text ∙ finish-call-at key iv (taking-text d t)

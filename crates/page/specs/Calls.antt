@@ -7,20 +7,19 @@ use lib.Dec.{eqb, ltb}
 use lib.ListN.{length, drop}
 use Rattle.scope.specs.Limits.{most-data, most-text}
 use Rattle.scope.specs.Refusals.{refuse, granted, key-length, iv-length, too-long, short-output, bad-tag, tag-length}
-use Rattle.start.specs.Trace.{same}
-use Rattle.digest.specs.Digest.{zeros}
+use Rattle.words.specs.Bytes.{zeros, same}
 use Rattle.page.specs.Page.{cipher-of, tag-for, page-tag}
 
 -- 3: data or text over its limit
-abbrev pub over : (ad text : List ℕ) → Bool
-over d t = ltb most-data (length d) || ltb most-text (length t)
+abbrev pub over-limit : (ad text : List ℕ) → Bool
+over-limit d t = ltb most-data (length d) || ltb most-text (length t)
 
 -- seal: 1, 2, 3, 4
 unfoldable pub seal-number : (key iv ad text out : List ℕ) → ℕ
 seal-number key iv d t out =
     refuse (not (eqb (length key) 32)) key-length
     (refuse (not (eqb (length iv) 16)) iv-length
-    (refuse (over d t) too-long (refuse (ltb (length out) (length t)) short-output 0)))
+    (refuse (over-limit d t) too-long (refuse (ltb (length out) (length t)) short-output 0)))
 
 unfoldable pub seal-out : (key iv ad text out : List ℕ) → List ℕ
 seal-out key iv d t out = granted (seal-number key iv d t out) (cipher-of key iv t ++ drop (length t) out) out
@@ -35,7 +34,7 @@ open-number key iv d c tag out =
     refuse (not (eqb (length key) 32)) key-length
     (refuse (not (eqb (length iv) 16)) iv-length
     (refuse (not (eqb (length tag) 16)) tag-length
-    (refuse (over d c) too-long
+    (refuse (over-limit d c) too-long
     (refuse (ltb (length out) (length c)) short-output (refuse (not (same tag (tag-for key iv d c))) bad-tag 0)))))
 
 -- the text, at the front of the output; a refusal writes nothing

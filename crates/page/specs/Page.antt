@@ -1,10 +1,10 @@
 -- A whole page, as the SNOW-V paper, section 4, and SP 800-38D, section 7, define its ciphertext and tag (document 01, "Tag arithmetic"): block 0
 -- of the keystream in sealed mode is H, block 1 the end pad, and the text uses block 2 on. Nothing here speaks of sessions or of the code.
-use Prim.Native.Nat.{ℕ, zero, suc, _+_, _-_, _*_, _/_, _%_}
+use Prim.Native.Nat.{ℕ, _+_, _-_, _/_, _%_}
 use mathlib.Core.List.{List, [], _∷_, _++_}
 use lib.ListN.{getD, length, replicate}
 use Rattle.words.specs.Xor.{_⊕_, xors}
-use Rattle.ghash.specs.Hash.{bigs, ghash}
+use Rattle.ghash.specs.Hash.{lengths, ghash}
 use Rattle.cipher.specs.Step.{z}
 use Rattle.cipher.specs.Run.{forward, moves}
 use Rattle.start.specs.declared.Mode.the-variants.{Sealed}
@@ -26,10 +26,6 @@ cipher-of key iv t = encrypted key iv 0 t
 -- zeros behind s up to a whole number of blocks
 abbrev pub padded : List ℕ → List ℕ
 padded s = s ++ replicate ((16 - length s % 16) % 16) 0
-
--- both lengths in bits, 64 bits each, high byte first
-abbrev pub lengths : (ad text : ℕ) → List ℕ
-lengths d t = bigs 8 (d * 8) ++ bigs 8 (t * 8)
 
 -- the tag of data and a ciphertext: the hash of both, each padded, and of their lengths, xor the end pad
 unfoldable pub tag-for : (key iv ad cipher : List ℕ) → List ℕ

@@ -1,11 +1,14 @@
 // Whole pages: seal and open.
 ghost use mathlib.Core.Path.{_≡_};
-ghost use Rattle.digest.specs.Digest.{zeros};
+ghost use Rattle.words.specs.Bytes.{zeros};
+ghost use Rattle.words.specs.Machine.{bytesOf};
+ghost use Rattle.ghash.specs.Machine.{bytesOfElement};
 ghost use Rattle.session.specs.Machine.{sealingOf};
+ghost use Rattle.session.specs.Inner.{Multiples};
 ghost use Rattle.page.specs.Calls.{seal-number, seal-out, seal-tag, open-number, open-out};
 ghost use Rattle.page.specs.Inner.{tag-over};
-use digest::Held;
 use session::Session;
+use words::Block;
 
 // A seal's answer, 0 or the refusal's number, and the tag (zeros on a refusal).
 pub struct Sealed {
@@ -46,36 +49,30 @@ pub fn seal(key: &[u8], iv: &[u8], ad: &[u8], text: &[u8], out: &mut [u8]) -> Se
     }
     let b = session::begin(key, iv);
     let begun = b.session;
-    let d = session::data(begun, ad);
-    let told = d.session;
-    let w = session::text(told, text, out);
-    let whole = w.session;
-    let f = session::finish(whole);
-    let tag = f.tag;
+    let h = begun.h;
+    let mut table = [0u64; 1024];
+    session::multiples(h, &mut table);
+    let told = session::data_with(begun, ad, &table);
+    let whole = session::text_with(told, text, out, &table);
     Sealed {
         answer: scope::ACCEPTED,
-        tag: tag,
+        tag: words::to_bytes(session::tag_with(whole, &table)),
     }
 }
 
-// The tag of a session whose data is in, over a ciphertext that is read and not written.
-fn tag_over(s: Session, cipher: &[u8]) -> [u8; 16]
-    ensures { λ r. ⌜ r ≡ tag-over (sealingOf s) (now (cipher .entry)) ⌝ }
+// The tag of a session whose data is closed, over a ciphertext that is read and not written.
+fn tag_over(s: Session, cipher: &[u8], table: &[u64; 1024]) -> Block
+    requires { ⌜ Multiples (bytesOfElement (s .h)) (now table) ⌝ }
+    ensures { λ r. ⌜ bytesOf r ≡ tag-over (sealingOf s) (now (cipher .entry)) ⌝ }
 {
     let h = s.h;
     let d = s.held;
-    let y = digest::settle(h, d, s.ad);
-    let none = Held {
-        acc: y,
-        pending: [0; 16],
-    };
-    let e = digest::absorb(h, none, 0, cipher);
+    let e = digest::absorb_with(h, d, 0, cipher, table);
     let mut u = s;
     u.phase = 1;
     u.text = cipher.len() as u64;
     u.held = e;
-    let f = session::finish(u);
-    f.tag
+    session::tag_with(u, table)
 }
 
 // Opens a page: the text goes to the front of the output, as many bytes as the ciphertext has, if the tag is the one that the data and the
@@ -105,11 +102,14 @@ pub fn open(key: &[u8], iv: &[u8], ad: &[u8], cipher: &[u8], tag: &[u8], out: &m
     }
     let b = session::begin(key, iv);
     let begun = b.session;
-    let d = session::data(begun, ad);
-    let told = d.session;
-    let expected = tag_over(told, cipher);
-    if start::same(words::load(tag, 0), words::load(&expected, 0)) {
-        session::text(told, cipher, out);
+    let h = begun.h;
+    let mut table = [0u64; 1024];
+    session::multiples(h, &mut table);
+    let ready = session::close_with(session::data_with(begun, ad, &table), &table);
+    let given = words::load(tag, 0);
+    let expected = tag_over(ready, cipher, &table);
+    if words::same(given, expected) {
+        session::apply_keystream(ready, cipher, out);
         return scope::ACCEPTED;
     }
     scope::BAD_TAG

@@ -1,5 +1,4 @@
 // Blocks that resume refuses: with one layout rule broken and all others kept, and with a state that no stay of the key leads to.
-ghost use mathlib.Core.Path.{_≡_};
 ghost use Prim.Native.Nat.{_+_, _≤_};
 ghost use lib.ListN.{length};
 use crate::pieces;

@@ -1,6 +1,5 @@
 // Pages of 0 to 50 bytes of data and 0 to 50 of text, by a session that is suspended and resumed at one cut, at each in turn, beside the page
 // sealed whole.
-ghost use mathlib.Core.Path.{_≡_};
 ghost use Prim.Native.Nat.{_≤_};
 ghost use lib.ListN.{length};
 use crate::output;

@@ -3,15 +3,8 @@
 use Prim.Native.Nat.{ℕ, _+_}
 use mathlib.Core.Bool.{Bool, _||_}
 use lib.Dec.{leb, ltb}
+use Rattle.scope.specs.Limits.{last-day, kept-days}
 use Rattle.scope.specs.Refusals.{pick, day-range}
-
--- the last day
-abbrev pub last-day : ℕ
-last-day = 73048
-
--- for how many days after its departure a page is kept
-abbrev pub kept-days : ℕ
-kept-days = 548
 
 -- whether the page is kept, or a refusal
 pub data Answer : Type 0 where

@@ -3,11 +3,6 @@ ghost use mathlib.Core.Path.{_≡_};
 ghost use Rattle.retention.specs.Keeping.{keeping};
 ghost use Rattle.retention.specs.Machine.{answerOf};
 
-// The last day that days count to, and for how many days after its departure a page is kept.
-pub const LAST_DAY: u64 = 73048;
-
-pub const KEPT_DAYS: u64 = 548;
-
 pub enum Verdict {
     Kept,
     NotKept,
@@ -18,14 +13,14 @@ pub enum Verdict {
 pub fn kept(today: u64, departure: u64) -> Verdict
     ensures { λ r. ⌜ answerOf r ≡ keeping today departure ⌝ }
 {
-    if today > LAST_DAY {
+    if today > scope::LAST_DAY {
         return Verdict::Refused(scope::DAY_RANGE);
     }
-    if departure > LAST_DAY {
+    if departure > scope::LAST_DAY {
         return Verdict::Refused(scope::DAY_RANGE);
     }
     // Added to the departure, so that a departure after today needs no case of its own.
-    if today <= departure + KEPT_DAYS {
+    if today <= departure + scope::KEPT_DAYS {
         return Verdict::Kept;
     }
     Verdict::NotKept

@@ -1,4 +1,4 @@
--- The limits of document 01, named once. Lengths are in bytes, counts in blocks of 16 bytes.
+-- The limits of document 01, named once. Lengths are in bytes, counts in blocks of 16 bytes, days in days.
 use Prim.Native.Nat.{ℕ}
 
 abbrev pub most-data : ℕ
@@ -10,3 +10,15 @@ most-text = 1048576
 -- the highest block count: 2 and the blocks of the longest text
 abbrev pub most-blocks : ℕ
 most-blocks = 65538
+
+-- the last day; days count from 1 January 2000 as 0
+abbrev pub last-day : ℕ
+last-day = 73048
+
+-- for how many days after its departure a page is kept
+abbrev pub kept-days : ℕ
+kept-days = 548
+
+-- hex digits in a line of the program's input
+abbrev pub most-digits : ℕ
+most-digits = 8192

@@ -34,3 +34,11 @@ pub const MOST_DATA: u64 = 65535;
 pub const MOST_TEXT: u64 = 1048576;
 
 pub const MOST_BLOCKS: u64 = 65538;
+
+// The last day that days count to, and for how many days after its departure a page is kept.
+pub const LAST_DAY: u64 = 73048;
+
+pub const KEPT_DAYS: u64 = 548;
+
+// Hex digits in a line of the program's input.
+pub const MOST_DIGITS: usize = 8192;

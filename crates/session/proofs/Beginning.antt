@@ -5,23 +5,18 @@ use Prim.Native.Nat.{ℕ}
 use borrow.Author.Tests.{ne-eqb}
 use Rattle.scope.specs.Refusals.{granted}
 use Rattle.cipher.specs.Registers.{Registers}
-use Rattle.cipher.specs.Run.{moves}
 use Rattle.start.specs.declared.Mode.the-variants.{Sealed}
-use Rattle.start.specs.Start.{start, start-number, blank}
-use Rattle.session.specs.Calls.{begun, begin-call}
-use Rattle.session.specs.Begun.{begun-from, closed-with}
-
-pub refused-state : (n : ℕ) (s t : Registers) → ¬ (n ≡ 0) → granted n s t ≡ t
-refused-state n s t h = rw (ne-eqb n 0 h)
+use Rattle.start.specs.Start.{start, start-number}
+use Rattle.session.specs.Calls.{begun-from, begun, nobody, begin-call}
 
 pub granted-state : (n : ℕ) (s t : Registers) → n ≡ 0 → granted n s t ≡ s
 granted-state n s t e = rw e
 
 module _ (key iv : List ℕ) where
-  pub refused-session : ¬ (start-number key iv ≡ 0) → begin-call key iv .session ≡ closed-with blank
+  pub refused-session : ¬ (start-number key iv ≡ 0) → begin-call key iv .session ≡ nobody
   unfolding begin-call
   refused-session h = rw (ne-eqb (start-number key iv) 0 h)
 
   pub granted-session : start-number key iv ≡ 0 → begin-call key iv .session ≡ begun-from (start key iv Sealed)
-  unfolding begin-call begun begun-from moves
+  unfolding begin-call begun
   granted-session e = rw e

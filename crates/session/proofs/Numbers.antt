@@ -6,13 +6,13 @@ use native.Mathlib.Omega.{arith}
 use borrow.Author.Tests.{eq-eqb, ne-eqb, lt-ltb, le-ltb}
 use lib.ListN.{length, drop}
 use Rattle.scope.specs.Limits.{most-data, most-text}
+use Rattle.words.specs.Bytes.{zeros}
 use Rattle.ghash.specs.Hash.{bigs}
 use Rattle.ghash.proofs.BigEndian.{bigs-append}
 use Rattle.session.specs.declared.Session.{Session}
 use Rattle.session.specs.declared.Said.{Said}
 use Rattle.session.specs.Sealing.{Sealing}
 use Rattle.session.specs.Machine.{sealingOf, Says}
-use Rattle.digest.specs.Digest.{zeros}
 use Rattle.session.specs.Calls.{data-number, data-taken, data-call, closed, text-taken, text-out, text-number, text-call, finish-number, tag-of, finished, finish-call}
 
 module _ (s : Sealing) (p : List ℕ) where

@@ -8,12 +8,12 @@ use native.Mathlib.Decide.{ℕ-discrete}
 use native.Mathlib.Omega.{arith}
 use borrow.Author.Tests.{eq-eqb, ne-eqb}
 use lib.Dec.{eqb}
-use lib.ListN.{length, length-append}
+use lib.ListN.{length, drop, length-append}
 use Rattle.scope.specs.Refusals.{pick}
-use Rattle.digest.specs.Digest.{absorb, settled}
+use Rattle.digest.specs.Digest.{Sum, absorb, settled}
 use Rattle.digest.proofs.Pieces.{absorb-append}
 use Rattle.session.specs.Sealing.{Sealing}
-use Rattle.session.specs.Inner.{into-text}
+use Rattle.session.specs.Inner.{told, into-text}
 use Rattle.session.specs.Calls.{data-taken, closed, byte-out, byte-taken, text-taken, text-out}
 
 -- ---- text
@@ -108,6 +108,15 @@ module _ (s : Sealing) where
       go (yes e) = rw (← closed-now e) (λ z. omega (arith, z))
       go (no e) = rw (← closed-already e) e
 
+-- a text taken by the session u with its data closed
+module _ (s u : Sealing) (e : u ≡ closed s) where
+  pub closed-count : u .text ≡ s .text
+  closed-count = ap (λ (v : Sealing). v .text) e ∙ closed-text s
+
+  pub closed-piece : (r : Sealing) (p out after : List ℕ) → (r ≡ text-taken u p) × (after ≡ text-out u p ++ drop (length p) out)
+      → (r ≡ text-taken (closed s) p) × (after ≡ text-out (closed s) p ++ drop (length p) out)
+  closed-piece r p out after t = rw (← e) t
+
 -- two texts, each of which closes the data, are one
 module _ (s : Sealing) (p q : List ℕ) where
   closed-since : closed (text-taken (closed s) p) ≡ text-taken (closed s) p
@@ -120,6 +129,20 @@ module _ (s : Sealing) (p q : List ℕ) where
   out-twice = ap (λ (u : Sealing). text-out (closed s) p ++ text-out u q) closed-since ∙ sym (out-append (closed s) p q)
 
 -- ---- data
+
+pub told-taken : (s : Sealing) (p : List ℕ) (y : Sum) → s .phase ≡ 0 → y ≡ absorb (s .h) (s .sum) (s .ad) p → told s (length p) y ≡ data-taken s p
+unfolding data-taken
+told-taken s p y e f =
+    λ i. record {
+      phase = e i;
+      ad = s .ad + length p;
+      text = s .text;
+      registers = s .registers;
+      h = s .h;
+      pad = s .pad;
+      current = s .current;
+      sum = f i;
+    }
 
 pub data-append : (s : Sealing) (p q : List ℕ) → data-taken s (p ++ q) ≡ data-taken (data-taken s p) q
 unfolding data-taken

@@ -49,7 +49,7 @@ ready-start s e = rw e
 -- ---- byte by byte within it
 
 -- a block is drawn for the first byte at most
-drawn-once : (s : Sealing) (p : List ℕ) → 0 < length p → s .text % 16 + length p ≤ 16
+pub drawn-once : (s : Sealing) (p : List ℕ) → 0 < length p → s .text % 16 + length p ≤ 16
     → (text-taken s p .registers ≡ ready s .registers) × (text-taken s p .current ≡ ready s .current)
 unfolding text-taken byte-taken ready
 drawn-once s [] z h = absurd (omega arith)

@@ -1,37 +1,42 @@
 -- The calls of a session (document 01, "Sessions and parking"): for each its number, 0 or that of the refusal in the call's order, and what an
 -- accepted call makes of the session. A refused call hands the session back as it was. Pieces and outputs are lists of bytes.
-use Prim.Native.Nat.{ℕ, zero, suc, _+_, _*_, _/_, _%_, _^_}
+use Prim.Native.Nat.{ℕ, _+_, _%_}
 use mathlib.Core.List.{List, [], _∷_, _++_}
-use mathlib.Core.Bool.{Bool, true, false, not}
+use mathlib.Core.Bool.{not}
 use lib.Dec.{eqb, ltb}
 use lib.ListN.{getD, length, drop}
 use Rattle.scope.specs.Limits.{most-data, most-text}
 use Rattle.scope.specs.Refusals.{pick, refuse, granted, out-of-phase, too-long, short-output}
 use Rattle.words.specs.Xor.{_⊕_, xors}
-use Rattle.ghash.specs.Hash.{bigs, eat}
+use Rattle.words.specs.Bytes.{zeros}
+use Rattle.ghash.specs.Hash.{lengths, eat}
 use Rattle.cipher.specs.Registers.{Registers}
 use Rattle.cipher.specs.Step.{z, step}
 use Rattle.cipher.specs.Run.{forward, moves}
 use Rattle.start.specs.declared.Mode.the-variants.{Sealed}
 use Rattle.start.specs.Start.{start, start-number, blank}
-use Rattle.digest.specs.Digest.{zeros, Sum, fresh, push, absorb, settled}
+use Rattle.digest.specs.Digest.{fresh, push, absorb, settled}
 use Rattle.session.specs.Sealing.{Sealing}
 
 -- ---- begin: 1, 2 (the numbers of a start)
 
--- the session that an accepted begin gives: two blocks are drawn, H and the end pad
-unfoldable pub begun : (key iv : List ℕ) → Sealing
-begun key iv =
+-- a session begun where a start leads: two blocks are drawn, H and the end pad
+abbrev pub begun-from : Registers → Sealing
+begun-from s =
     record {
       phase = 0;
       ad = 0;
       text = 0;
-      registers = moves forward 2 (start key iv Sealed);
-      h = z (start key iv Sealed);
-      pad = z (moves forward 1 (start key iv Sealed));
-      current = z (moves forward 1 (start key iv Sealed));
+      registers = moves forward 2 s;
+      h = z s;
+      pad = z (moves forward 1 s);
+      current = z (moves forward 1 s);
       sum = fresh zeros;
     }
+
+-- the session that an accepted begin gives
+unfoldable pub begun : (key iv : List ℕ) → Sealing
+begun key iv = begun-from (start key iv Sealed)
 
 -- what a refused begin hands out in a session's place: it is finished, so that every call gives 7
 abbrev pub nobody : Sealing
@@ -112,10 +117,6 @@ text-number s p out =
 
 unfoldable pub finish-number : Sealing → ℕ
 finish-number s = refuse (not (ltb (s .phase) 2)) out-of-phase 0
-
--- both lengths in bits, 64 bits each, high byte first
-abbrev pub lengths : (ad text : ℕ) → List ℕ
-lengths d t = bigs 8 (d * 8) ++ bigs 8 (t * 8)
 
 -- the hash of all, both lengths last, xor the end pad
 unfoldable pub tag-of : Sealing → List ℕ

@@ -1,4 +1,4 @@
--- What the inner functions of the text call do and ask: a piece goes by parts of blocks and by whole blocks, and not by bytes. No call's
+-- What the inner functions do and ask: a piece goes by parts of blocks and by whole blocks, and not by bytes. No call's
 -- contract names anything here. p and o are the lengths of the piece and of the output, `from` and `to` the places of the part in both.
 use Prim.Native.Nat.{ℕ, _+_, _-_, _%_, _^_, _<_, _≤_}
 use mathlib.Core.Path.{_≡_}
@@ -21,6 +21,11 @@ use Rattle.digest.specs.Machine.{sumOf}
 use Rattle.session.specs.declared.Lane.{Lane}
 use Rattle.session.specs.Sealing.{Sealing}
 use Rattle.session.specs.Calls.{byte-current}
+
+-- n bytes more of data, which are hashed or held in y
+abbrev pub told : Sealing → ℕ → (y : Sum) → Sealing
+told s n y =
+    record { phase = s .phase; ad = s .ad + n; text = s .text; registers = s .registers; h = s .h; pad = s .pad; current = s .current; sum = y }
 
 -- the data closed, with their hash y
 abbrev pub into-text : Sealing → (y : List ℕ) → Sealing

@@ -2,4 +2,3 @@ pub mod Sealing
 pub mod Calls
 pub mod Machine
 pub mod Inner
-pub mod Begun

@@ -1,7 +1,5 @@
 -- How the code holds a session, and what its calls answer, in the terms of the definitions.
-use Prim.Native.Nat.{ℕ}
 use mathlib.Core.Path.{_≡_}
-use mathlib.Core.List.{List}
 use Rattle.words.specs.Machine.{bytesOf}
 use Rattle.ghash.specs.Machine.{bytesOfElement}
 use Rattle.cipher.specs.Machine.{registersOf}

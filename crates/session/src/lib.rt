@@ -5,17 +5,17 @@ ghost use Prim.Native.Nat.{_+_, _-_, _%_, _^_, _<_, _≤_};
 ghost use lib.ListN.{length, drop};
 ghost use lib.Seq.{sets, slice};
 ghost use Rattle.words.specs.Xor.{xors};
+ghost use Rattle.words.specs.Machine.{bytesOf};
+ghost use Rattle.words.specs.Bytes.{zeros};
 ghost use Rattle.aes.specs.Field.{sub};
 ghost use Rattle.aes.specs.Tables.{Holds};
-ghost use Rattle.words.specs.Machine.{bytesOf};
+ghost use Rattle.ghash.specs.Hash.{lengths};
 ghost use Rattle.ghash.specs.Machine.{bytesOfElement};
 ghost use Rattle.cipher.specs.Step.{z};
 ghost use Rattle.cipher.specs.Machine.{registersOf};
-ghost use Rattle.digest.specs.Digest;
-ghost use Rattle.digest.specs.Digest.{zeros};
 ghost use Rattle.digest.specs.Machine.{sumOf};
-ghost use Rattle.session.specs.Begun as Begun;
-ghost use Rattle.session.specs.Calls.{begin-call, data-call, closed, lengths, tag-of, text-taken, text-out, text-call, finish-call};
+ghost use Rattle.session.specs.Calls as Calls;
+ghost use Rattle.session.specs.Calls.{begun-from, begin-call, data-taken, data-call, closed, tag-of, text-taken, text-out, text-call, finish-call};
 ghost use Rattle.session.specs.Machine.{sealingOf, Says, Finishes};
 ghost use Rattle.session.specs.Inner as Inner;
 ghost use Rattle.session.specs.Inner.{ready, masked, trackOf, block-taken, Part, Blocks, Multiples, Lent};
@@ -52,38 +52,26 @@ pub struct Finished {
     pub session: Session,
 }
 
-fn zero_block() -> Block
-    ensures { λ r. ⌜ bytesOf r ≡ zeros ⌝ }
-{
-    Block {
-        w0: 0,
-        w1: 0,
-        w2: 0,
-        w3: 0,
-    }
-}
-
-// No bytes held under a hash.
-fn fresh(y: Element) -> Held
-    ensures { λ r. ⌜ sumOf r ≡ Digest.fresh (bytesOfElement y) ⌝ }
-{
-    Held {
-        acc: y,
-        pending: [0; 16],
-    }
-}
-
 fn zero_element() -> Element
     ensures { λ r. ⌜ bytesOfElement r ≡ zeros ⌝ }
 {
     Element { hi: 0, lo: 0 }
 }
 
-// What a refused begin hands out in a session's place: finished, so that every call gives 7.
-pub fn nobody(blank: State) -> Session
-    ensures { λ r. ⌜ sealingOf r ≡ Begun.closed-with (registersOf blank) ⌝ }
+// The table of H, for the calls to which it is lent.
+pub fn multiples(h: Element, table: &mut [u64; 1024])
+    requires { ⌜ length (now table) ≡ 1024 ⌝ }
+    ensures { λ _. ⌜ Multiples (bytesOfElement h) (now (table .exit)) ⌝ }
 {
-    let zero = zero_block();
+    ghash::fill(table, h)
+}
+
+// What a refused begin hands out in a session's place: finished, so that every call gives 7.
+pub fn nobody() -> Session
+    ensures { λ r. ⌜ sealingOf r ≡ Calls.nobody ⌝ }
+{
+    let blank = start::blank_state();
+    let zero = words::zero();
     let none = zero_element();
     Session {
         phase: 2,
@@ -93,13 +81,13 @@ pub fn nobody(blank: State) -> Session
         h: none,
         pad: zero,
         current: zero,
-        held: fresh(none),
+        held: digest::fresh(none),
     }
 }
 
 // The session that an accepted begin gives: H and the end pad are drawn.
 fn opened(s: State) -> Session
-    ensures { λ r. ⌜ sealingOf r ≡ Begun.begun-from (registersOf s) ⌝ }
+    ensures { λ r. ⌜ sealingOf r ≡ begun-from (registersOf s) ⌝ }
 {
     let sbox = aes::sbox();
     let w = cipher::forward(s, &sbox);
@@ -116,7 +104,7 @@ fn opened(s: State) -> Session
         h: ghash::from_block(h),
         pad: pad,
         current: pad,
-        held: fresh(zero_element()),
+        held: digest::fresh(zero_element()),
     }
 }
 
@@ -130,13 +118,24 @@ pub fn begin(key: &[u8], iv: &[u8]) -> Said
     if answer != 0 {
         return Said {
             answer: answer,
-            session: nobody(s),
+            session: nobody(),
         };
     }
     Said {
         answer: scope::ACCEPTED,
         session: opened(s),
     }
+}
+
+// n bytes more of data, which are hashed or held in e.
+fn told(s: Session, n: u64, e: Held) -> Session
+    requires { ⌜ s .ad + n < 2 ^ 64 ⌝ }
+    ensures { λ r. ⌜ sealingOf r ≡ Inner.told (sealingOf s) n (sumOf e) ⌝ }
+{
+    let mut r = s;
+    r.ad = s.ad + n;
+    r.held = e;
+    r
 }
 
 // Takes a piece of associated data. Refused: 7 once text has come or after finish, 3 where the data would be over 65,535 bytes.
@@ -165,14 +164,24 @@ pub fn data(s: Session, piece: &[u8]) -> Said
     }
     let h = s.h;
     let d = s.held;
-    let e = digest::absorb(h, d, ad, piece);
-    let mut r = s;
-    r.ad = ad + n;
-    r.held = e;
     Said {
         answer: scope::ACCEPTED,
-        session: r,
+        session: told(s, n, digest::absorb(h, d, ad, piece)),
     }
+}
+
+// An accepted piece of associated data, with the table of H lent.
+pub fn data_with(s: Session, piece: &[u8], table: &[u64; 1024]) -> Session
+    requires { ⌜ (s .phase ≡ 0) × (s .ad + length (now piece) < 2 ^ 64) × Multiples (bytesOfElement (s .h)) (now table) ⌝ }
+    ensures { λ r. ⌜ sealingOf r ≡ data-taken (sealingOf s) (now (piece .entry)) ⌝ }
+{
+    let h = s.h;
+    let d = s.held;
+    told(
+        s,
+        piece.len() as u64,
+        digest::absorb_with(h, d, s.ad, piece, table),
+    )
 }
 
 // A block is drawn where the next byte is the first of one, and not before.
@@ -329,7 +338,8 @@ fn block(
     let z = w.z;
     let c = words::xor(words::load(piece, at), z);
     words::store(out, at, c);
-    let v = ghash::absorb(y, c, h, table);
+    // as halves: a block of four words that is read again as two stalls the processor
+    let v = ghash::absorb_element(y, ghash::from_block(c), h, table);
     let e = Held {
         acc: v,
         pending: [0; 16],
@@ -381,11 +391,35 @@ fn blocks(
     r
 }
 
+// What `text` would write, from the start of a block on, with nothing hashed: of a ciphertext, its text.
+pub fn apply_keystream(s: Session, input: &[u8], out: &mut [u8])
+    requires { ⌜ (s .text % 16 ≡ 0) × (length (now input) ≤ length (now out)) ⌝ }
+    ensures { λ _. ⌜ now (out .exit) ≡ text-out (sealingOf s) (now (input .entry)) ++ drop (length (now (input .entry))) (now (out .entry)) ⌝ }
+{
+    let sbox = aes::sbox();
+    let n = input.len();
+    let mut state = s.state;
+    let mut i: usize = 0;
+    while n - i >= 16 {
+        let w = cipher::forward(state, &sbox);
+        let next = w.state;
+        let z = w.z;
+        words::store(out, i, words::xor(words::load(input, i), z));
+        state = next;
+        i += 16;
+    }
+    if i < n {
+        let w = cipher::forward(state, &sbox);
+        let z = w.z;
+        under(words::to_bytes(z), [0; 16], 0, input, out, i, n);
+    }
+}
+
 // The first text, or finish, closes the data; y is its hash.
 fn into_text(s: Session, y: Element) -> Session
     ensures { λ r. ⌜ sealingOf r ≡ Inner.into-text (sealingOf s) (bytesOfElement y) ⌝ }
 {
-    let e = fresh(y);
+    let e = digest::fresh(y);
     let mut r = s;
     r.phase = 1;
     r.held = e;
@@ -405,7 +439,7 @@ fn close(s: Session) -> Session
 }
 
 // As `close`, with the table of H lent.
-fn close_with(s: Session, table: &[u64; 1024]) -> Session
+pub fn close_with(s: Session, table: &[u64; 1024]) -> Session
     requires { ⌜ Multiples (bytesOfElement (s .h)) (now table) ⌝ }
     ensures { λ r. ⌜ sealingOf r ≡ closed (sealingOf s) ⌝ }
 {
@@ -447,7 +481,21 @@ fn long_text(s: Session, piece: &[u8], out: &mut [u8], table: &[u64; 1024]) -> S
     few(v, piece, out, tail, n, &sbox)
 }
 
-// Any accepted piece, even an empty one, closes the data. The table of H is made once, where a block is filled.
+// Any accepted piece, even an empty one, closes the data. The table of H is lent.
+pub fn text_with(s: Session, piece: &[u8], out: &mut [u8], table: &[u64; 1024]) -> Session
+    requires { ⌜ Part (s .text) (length (now piece)) (length (now out)) 0 (length (now piece)) × Multiples (bytesOfElement (s .h)) (now table) ⌝ }
+    ensures session { λ r. ⌜ sealingOf r ≡ text-taken (closed (sealingOf s)) (now (piece .entry)) ⌝ }
+    ensures out { λ _. ⌜ now (out .exit) ≡ text-out (closed (sealingOf s)) (now (piece .entry)) ++ drop (length (now (piece .entry))) (now (out .entry)) ⌝ }
+{
+    let u = close_with(s, table);
+    let at = (s.text % 16) as usize;
+    if piece.len() < 16 - at {
+        return short_text(u, piece, out);
+    }
+    long_text(u, piece, out, table)
+}
+
+// The same, with the table made where a block is filled.
 fn take_text(s: Session, piece: &[u8], out: &mut [u8]) -> Session
     requires { ⌜ Part (s .text) (length (now piece)) (length (now out)) 0 (length (now piece)) ⌝ }
     ensures session { λ r. ⌜ sealingOf r ≡ text-taken (closed (sealingOf s)) (now (piece .entry)) ⌝ }
@@ -459,8 +507,8 @@ fn take_text(s: Session, piece: &[u8], out: &mut [u8]) -> Session
     }
     let h = s.h;
     let mut table = [0u64; 1024];
-    ghash::fill(&mut table, h);
-    long_text(close_with(s, &table), piece, out, &table)
+    multiples(h, &mut table);
+    text_with(s, piece, out, &table)
 }
 
 // Seals a piece of text into the front of `out`; the first piece closes the data. Refused: 7 after finish, 3 where the text would be over
@@ -510,19 +558,27 @@ fn bits(ad: u64, text: u64) -> Block
     })
 }
 
-// The hash of all, both lengths last, xor the end pad.
+// The hash of all, both lengths last, xor the end pad. The table of H is lent.
+pub fn tag_with(s: Session, table: &[u64; 1024]) -> Block
+    requires { ⌜ Multiples (bytesOfElement (s .h)) (now table) ⌝ }
+    ensures { λ r. ⌜ bytesOf r ≡ tag-of (sealingOf s) ⌝ }
+{
+    let h = s.h;
+    let pad = s.pad;
+    let u = close_with(s, table);
+    let d = u.held;
+    let y = digest::settle_with(h, d, s.text, table);
+    let v = ghash::absorb(y, bits(s.ad, s.text), h, table);
+    words::xor(ghash::to_block(v), pad)
+}
+
 fn tag(s: Session) -> [u8; 16]
     ensures { λ r. ⌜ r ≡ tag-of (sealingOf s) ⌝ }
 {
     let h = s.h;
-    let pad = s.pad;
     let mut table = [0u64; 1024];
-    ghash::fill(&mut table, h);
-    let u = close_with(s, &table);
-    let d = u.held;
-    let y = digest::settle_with(h, d, s.text, &table);
-    let v = ghash::absorb(y, bits(s.ad, s.text), h, &table);
-    words::to_bytes(words::xor(ghash::to_block(v), pad))
+    multiples(h, &mut table);
+    words::to_bytes(tag_with(s, &table))
 }
 
 // Gives the tag and ends the session: every call after it gives 7. Refused: 7.

@@ -1,5 +1,5 @@
 -- The answers of start and trace by their lengths and counts, and the key put together from its halves.
-use mathlib.Core.Path.{_≡_, refl, sym, ap, ap₂, _∙_}
+use mathlib.Core.Path.{_≡_, ap₂, _∙_}
 use mathlib.Core.List.{List, _++_}
 use Prim.Native.Nat.{ℕ, _≤_, _<_}
 use native.Mathlib.Omega.{arith}
@@ -10,7 +10,7 @@ use Rattle.scope.specs.Limits.{most-blocks}
 use Rattle.cipher.specs.Registers.{Registers}
 use Rattle.cipher.specs.Run.{backward, moves}
 use Rattle.start.specs.Start.{start-number}
-use Rattle.start.specs.Trace.{Answer, Answer.refused, loaded, unload, trace}
+use Rattle.start.specs.Trace.{Answer.refused, loaded, unload, trace}
 
 module _ (key iv : List ℕ) where
   pub bad-key : ¬ (length key ≡ 32) → start-number key iv ≡ 1

@@ -1,16 +1,14 @@
 -- What is xored into a8 to a15 or into R1 a second time is out again; and both keep registers registers.
-use mathlib.Core.Path.{_≡_, refl, sym, ap, ap₂, _∙_}
-use mathlib.Core.List.{List, [], _∷_, _++_}
-use Prim.Native.Nat.{ℕ, _+_, _-_, _^_, _<_, _≤_}
-use native.Mathlib.Omega.{arith}
+use mathlib.Core.Path.{_≡_, sym, ap, ap₂, _∙_}
+use mathlib.Core.List.{List, _++_}
+use Prim.Native.Nat.{ℕ, _+_, _-_, _<_, _≤_}
 use lib.Dec.{lit<, lit≤}
-use lib.ListN.{length, take, drop, getD, take-append-drop}
+use lib.ListN.{take, drop, take-append-drop}
 use lib.Seq.{take-at, drop-at}
 use Rattle.words.specs.Xor.{xors}
 use Rattle.words.specs.Bytes.{Row, IsBlock, numbers}
 use Rattle.words.proofs.Rows.{row-take, row-drop, row-append, xors-row, xors-twice}
 use Rattle.words.proofs.Bytes.{numbers-row}
-use Rattle.lfsr.specs.declared.Lfsr.{Lfsr}
 use Rattle.cipher.specs.Registers.{Registers, Good}
 use Rattle.start.specs.Start.{into-a, into-r1}
 

@@ -1,30 +1,26 @@
 -- The code's blocks against the definitions: a block's words as cells, sameness of blocks by their words, the IV as two halves, and what loading
 -- and mixing make of the registers.
-use mathlib.Core.Path.{_≡_, refl, sym, ap, ap₂, _∙_}
-use mathlib.Core.Bool.{Bool, true, false, _&&_}
+use mathlib.Core.Path.{_≡_, sym, ap, ap₂, _∙_}
+use mathlib.Core.Bool.{true, false}
 use mathlib.Core.List.{List, [], _∷_, _++_}
 use Prim.Native.Nat.{ℕ, _+_, _*_, _/_, _%_, _^_, _<_}
 use native.Mathlib.Omega.{arith}
-use borrow.Author.Tests.{eq-eqb, eqb-true}
-use lib.Dec.{eqb, lit<}
-use lib.ListN.{length, take, drop}
+use lib.ListN.{take, drop}
 use lib.Seq.{take-at, drop-at}
-use Rattle.scope.specs.Refusals.{pick}
 use Rattle.words.specs.Xor.{xors}
-use Rattle.words.specs.Bytes.{Row, IsBlock, little, number, littles, numbers}
+use Rattle.words.specs.Bytes.{Row, IsBlock, little, number, littles, numbers, zeros}
 use Rattle.words.specs.Machine.{bytesOf}
 use Rattle.words.specs.declared.Block.{Block}
 use Rattle.words.proofs.Rows.{xors-row}
 use Rattle.words.proofs.Bytes.{littles-xor, littles-numbers, numbers-littles}
-use Rattle.words.proofs.Blocks.{Words, bytesOf-block, bytesOf-one}
+use Rattle.words.proofs.Blocks.{Words, bytesOf-block}
 use Rattle.cipher.specs.Registers.{Registers}
 use Rattle.start.specs.declared.Mode.{Mode}
 use Rattle.start.specs.declared.Mode.the-variants.{Plain, Sealed}
-use Rattle.start.specs.Start.{zeros, mode-cells, load}
-use Rattle.start.specs.Trace.{Answer, Answer.origin, Answer.refused, same, loads, unload}
+use Rattle.start.specs.Start.{mode-cells, load}
+use Rattle.start.specs.Trace.{Answer.origin, Answer.refused, loads, unload}
 use Rattle.start.proofs.Mixing.{words-row}
 use Rattle.start.proofs.Undo.{mode-row}
-use Rattle.start.proofs.Unloading.{same-refl, same-eq, and-left, and-right}
 
 -- ---- a block's cells
 
@@ -72,47 +68,6 @@ mixed-cells l x r b =
     ap (λ (t : List ℕ). numbers 2 8 (xors (littles 2 l) t)) (sym (littles-numbers 2 8 x b))
     ∙ ap (numbers 2 8) (sym (littles-xor 2 l (numbers 2 8 x) (r .long ∙ sym (words-row b .long))))
     ∙ numbers-littles 2 8 (xors l (numbers 2 8 x)) (xors-row 16 8 r (words-row b))
-
--- ---- sameness
-
-both-ways : (a b : Bool) → (a ≡ true → b ≡ true) → (b ≡ true → a ≡ true) → a ≡ b
-both-ways true b f g = sym (f refl)
-both-ways false true f g = g refl
-both-ways false false f g = refl
-
-pub same-words : (x y : Block) → Words x → Words y
-    → (eqb (x .w0) (y .w0) && eqb (x .w1) (y .w1) && eqb (x .w2) (y .w2) && eqb (x .w3) (y .w3)) ≡ same (bytesOf x) (bytesOf y)
-same-words x y p q = both-ways (e0 && e1 && e2 && e3) (same (bytesOf x) (bytesOf y)) forth back
-  where
-    e0 : Bool
-    e0 = eqb (x .w0) (y .w0)
-
-    e1 : Bool
-    e1 = eqb (x .w1) (y .w1)
-
-    e2 : Bool
-    e2 = eqb (x .w2) (y .w2)
-
-    e3 : Bool
-    e3 = eqb (x .w3) (y .w3)
-
-    forth : (e0 && e1 && e2 && e3) ≡ true → same (bytesOf x) (bytesOf y) ≡ true
-    forth e =
-        let f2 = and-left (e0 && e1 && e2) e3 e in
-        let f1 = and-left (e0 && e1) e2 f2 in
-        let same-block : x ≡ y = λ i. record {
-          w0 = eqb-true (x .w0) (y .w0) (and-left e0 e1 f1) i;
-          w1 = eqb-true (x .w1) (y .w1) (and-right e0 e1 f1) i;
-          w2 = eqb-true (x .w2) (y .w2) (and-right (e0 && e1) e2 f2) i;
-          w3 = eqb-true (x .w3) (y .w3) (and-right (e0 && e1 && e2) e3 e) i;
-        } in
-        ap (λ (t : Block). same (bytesOf x) (bytesOf t)) (sym same-block) ∙ same-refl (bytesOf x)
-
-    back : same (bytesOf x) (bytesOf y) ≡ true → (e0 && e1 && e2 && e3) ≡ true
-    back e =
-        let f : x ≡ y = bytesOf-one x y p q (same-eq (bytesOf x) (bytesOf y) e) in
-        λ i. eq-eqb (x .w0) (y .w0) (ap (λ (t : Block). t .w0) f) i && eq-eqb (x .w1) (y .w1) (ap (λ (t : Block). t .w1) f) i
-        && eq-eqb (x .w2) (y .w2) (ap (λ (t : Block). t .w2) f) i && eq-eqb (x .w3) (y .w3) (ap (λ (t : Block). t .w3) f) i
 
 -- ---- the IV as two halves
 

@@ -1,18 +1,17 @@
 -- Trace finds an IV and mode exactly when they lead to the state, and 6 exactly when none do: n steps back are undone by n steps forward, and
 -- a start's undoing by the start. So a state at a count names one IV and mode, and two starts that differ in either never meet.
-use mathlib.Core.Path.{_≡_, refl, sym, ap, ap₂, _∙_}
+use mathlib.Core.Path.{_≡_, refl, sym, ap, _∙_}
 use mathlib.Core.Logic.{_↔_}
 use mathlib.Core.List.{List}
 use Prim.Native.Nat.{ℕ, _≤_}
 use native.Mathlib.Omega.{arith}
-use lib.ListN.{length}
 use Rattle.scope.specs.Limits.{most-blocks}
 use Rattle.words.specs.Bytes.{Row, IsBlock}
 use Rattle.cipher.specs.Registers.{Registers, Good}
 use Rattle.cipher.specs.Run.{forward, backward, moves}
 use Rattle.cipher.proofs.Moves.{moves-good, moves-undone}
 use Rattle.start.specs.declared.Mode.{Mode}
-use Rattle.start.specs.Start.{load, start}
+use Rattle.start.specs.Start.{start}
 use Rattle.start.specs.Leads.{LeadsTo}
 use Rattle.start.specs.Trace.{Answer, Answer.origin, Answer.refused, loaded, unload, trace}
 use Rattle.start.proofs.Answers.{trace-walks}

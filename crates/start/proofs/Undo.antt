@@ -1,19 +1,19 @@
 -- A start is undone step by step: the z that was xored into a8 to a15 hangs on nothing that it was xored into, so it can be had from the state
 -- after it and xored out, and then the step goes back.
-use mathlib.Core.Path.{_≡_, refl, sym, ap, ap₂, subst, _∙_}
-use mathlib.Core.List.{List, [], _∷_, _++_}
-use Prim.Native.Nat.{ℕ, zero, suc, _+_, _-_, _<_, _≤_}
+use mathlib.Core.Path.{_≡_, refl, sym, ap, ap₂, _∙_}
+use mathlib.Core.List.{List}
+use Prim.Native.Nat.{ℕ, zero, suc, _-_, _<_, _≤_}
 use lib.Dec.{lit<, lit≤}
-use lib.ListN.{length, take, drop}
+use lib.ListN.{take, drop}
 use Rattle.words.specs.Bytes.{Row, IsBlock}
-use Rattle.words.proofs.Rows.{row-take, row-drop, row-append, below-test}
+use Rattle.words.proofs.Rows.{row-take, row-drop, row-append, below-test, zeros-block}
 use Rattle.cipher.specs.Registers.{Registers, Good}
 use Rattle.cipher.specs.Step.{z, step}
 use Rattle.cipher.specs.Back.{back, z-before}
 use Rattle.cipher.proofs.Inverse.{z-block, step-good, back-good, back-step, step-back, z-before-step, z-before-is}
 use Rattle.start.specs.declared.Mode.{Mode}
 use Rattle.start.specs.declared.Mode.the-variants.{Plain, Sealed}
-use Rattle.start.specs.Start.{zeros, mode-cells, load, into-a, into-r1, initial, initials, start}
+use Rattle.start.specs.Start.{mode-cells, load, into-a, into-r1, initial, initials, start}
 use Rattle.start.specs.Trace.{uninitial, uninitials, loaded}
 use Rattle.start.proofs.Mixing.{words-row, into-a-good, into-a-twice, into-r1-good, into-r1-twice}
 
@@ -75,9 +75,6 @@ initials-uninitials zero s g = refl
 initials-uninitials (suc n) s g = ap initial (initials-uninitials n (uninitial s) (uninitial-good s g)) ∙ initial-uninitial s g
 
 -- ---- the start
-
-pub zeros-block : IsBlock zeros
-zeros-block = record { long = refl; below = below-test 256 zeros (lit< tt) refl }
 
 pub mode-row : (m : Mode) → Row 8 65536 (mode-cells m)
 mode-row Plain = record { long = refl; below = below-test 65536 (mode-cells Plain) (lit< tt) refl }

@@ -1,48 +1,24 @@
 -- What undoing a start finds: registers that a start of this key loads in one mode with the IV in a0 to a7, or registers that none loads.
 use mathlib.Core.Path.{_≡_, refl, sym, ap, ap₂, _∙_}
 use mathlib.Core.Bool.{Bool, true, false, _&&_}
-use mathlib.Core.List.{List, [], _∷_, _++_}
+use mathlib.Core.List.{List, _++_}
 use Prim.Native.Nat.{ℕ, _+_, _<_, _≤_}
 use native.Mathlib.Omega.{arith}
-use borrow.Author.Tests.{eq-eqb, eqb-true}
-use lib.Dec.{eqb, lit<, lit≤}
-use lib.ListN.{length, take, drop, take-append-drop}
+use lib.Dec.{lit<, lit≤}
+use lib.ListN.{take, drop, take-append-drop}
 use lib.Seq.{take-at, drop-at}
-use Rattle.scope.specs.Refusals.{pick}
-use Rattle.words.specs.Bytes.{Row, IsBlock, little, littles, numbers}
+use Rattle.words.specs.Bytes.{Row, IsBlock, little, littles, numbers, same, zeros}
+use Rattle.words.proofs.Tests.{and-left, and-right, same-refl, same-eq}
 use Rattle.words.proofs.Rows.{row-take, row-drop}
 use Rattle.words.proofs.Bytes.{littles-numbers, numbers-littles}
 use Rattle.cipher.specs.Registers.{Registers, Good}
 use Rattle.cipher.proofs.Inverse.{low-block}
 use Rattle.start.specs.declared.Mode.{Mode}
 use Rattle.start.specs.declared.Mode.the-variants.{Plain, Sealed}
-use Rattle.start.specs.Start.{zeros, mode-cells, load}
-use Rattle.start.specs.Trace.{Answer, Answer.origin, Answer.refused, same, loads, unload}
+use Rattle.start.specs.Start.{mode-cells, load}
+use Rattle.start.specs.Trace.{Answer.origin, Answer.refused, loads, unload}
 use Rattle.start.proofs.Mixing.{words-row}
 use Rattle.start.proofs.Undo.{mode-row, low, high}
-
--- ---- sameness
-
-pub same-refl : (s : List ℕ) → same s s ≡ true
-unfolding same
-same-refl [] = refl
-same-refl (x ∷ s) = rw (eq-eqb x x refl, same-refl s)
-
-pub and-left : (a b : Bool) → (a && b) ≡ true → a ≡ true
-and-left true b e = refl
-and-left false b e = e
-
-pub and-right : (a b : Bool) → (a && b) ≡ true → b ≡ true
-and-right true b e = e
-and-right false b e = cc
-
-pub same-eq : (s t : List ℕ) → same s t ≡ true → s ≡ t
-unfolding same
-same-eq [] [] e = refl
-same-eq [] (y ∷ t) e = cc
-same-eq (x ∷ s) [] e = cc
-same-eq (x ∷ s) (y ∷ t) e =
-    ap₂ (λ (v : ℕ) (l : List ℕ). v ∷ l) (eqb-true x y (and-left (eqb x y) (same s t) e)) (same-eq s t (and-right (eqb x y) (same s t) e))
 
 -- all of six tests hold but one of them, the second
 but-one : {c0 c2 c3 c4 c5 : Bool} (c1 d : Bool) → c0 ≡ true → c1 ≡ d → c2 ≡ true → c3 ≡ true → c4 ≡ true → c5 ≡ true

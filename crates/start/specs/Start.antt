@@ -7,15 +7,11 @@ use lib.Dec.{eqb}
 use lib.ListN.{length, take, drop, replicate}
 use Rattle.scope.specs.Refusals.{refuse, key-length, iv-length}
 use Rattle.words.specs.Xor.{xors}
-use Rattle.words.specs.Bytes.{numbers}
+use Rattle.words.specs.Bytes.{numbers, zeros}
 use Rattle.cipher.specs.Registers.{Registers}
 use Rattle.cipher.specs.Step.{z, step}
 use Rattle.start.specs.declared.Mode.{Mode}
 use Rattle.start.specs.declared.Mode.the-variants.{Plain, Sealed}
-
--- a block of zeros
-abbrev pub zeros : List ℕ
-zeros = replicate 16 0
 
 -- what b0 to b7 are loaded with (12)
 abbrev pub mode-cells : Mode → List ℕ

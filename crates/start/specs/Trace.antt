@@ -2,19 +2,19 @@
 -- not be believed by reading: proofs/Tracing.antt shows that it finds an IV and mode exactly when they lead to the state, and 6 exactly when
 -- none do.
 use Prim.Native.Nat.{ℕ, zero, suc}
-use mathlib.Core.Bool.{Bool, true, false, not, _&&_}
-use mathlib.Core.List.{List, [], _∷_}
+use mathlib.Core.Bool.{Bool, not, _&&_}
+use mathlib.Core.List.{List}
 use lib.Dec.{eqb, ltb}
 use lib.ListN.{length, take, drop}
 use Rattle.scope.specs.Limits.{most-blocks}
 use Rattle.scope.specs.Refusals.{pick, key-length, count-too-high, no-origin}
-use Rattle.words.specs.Bytes.{littles}
+use Rattle.words.specs.Bytes.{littles, same, zeros}
 use Rattle.cipher.specs.Registers.{Registers}
 use Rattle.cipher.specs.Back.{back, z-before}
 use Rattle.cipher.specs.Run.{backward, moves}
 use Rattle.start.specs.declared.Mode.{Mode}
 use Rattle.start.specs.declared.Mode.the-variants.{Plain, Sealed}
-use Rattle.start.specs.Start.{zeros, mode-cells, into-a, into-r1}
+use Rattle.start.specs.Start.{mode-cells, into-a, into-r1}
 
 -- "its answer is either the stay number with its mode or a refusal"
 pub data Answer : Type 0 where
@@ -32,13 +32,6 @@ uninitials (suc n) s = uninitials n (uninitial s)
 -- what a start under this key would have loaded
 unfoldable pub loaded : (key : List ℕ) → Registers → Registers
 loaded key s = uninitials 15 (into-r1 (take 16 key) (uninitial (into-r1 (drop 16 key) s)))
-
--- whether two lists are the same
-unfoldable pub same : List ℕ → List ℕ → Bool
-same [] [] = true
-same [] (y ∷ t) = false
-same (x ∷ s) [] = false
-same (x ∷ s) (y ∷ t) = eqb x y && same s t
 
 -- whether a start in this mode under this key loads these registers, with some IV
 unfoldable pub loads : (key : List ℕ) → Mode → Registers → Bool

@@ -1,8 +1,7 @@
 // Start in plain and in sealed mode, and trace: from a state back to the IV and mode that lead to it.
 ghost use mathlib.Core.Path.{_≡_};
 ghost use mathlib.Core.List.{_++_};
-ghost use Prim.Native.Nat.{_+_, _≤_};
-ghost use lib.ListN.{length, take, drop};
+ghost use Prim.Native.Nat.{_+_};
 ghost use Rattle.words.specs.Bytes.{little, littles, numbers};
 ghost use Rattle.words.specs.Machine.{bytesOf};
 ghost use Rattle.aes.specs.Field.{sub, unsub};
@@ -48,23 +47,12 @@ fn cells(lo: Block, hi: Block) -> [u16; 16]
     ]
 }
 
-fn zero_block() -> Block
-    ensures { λ r. ⌜ bytesOf r ≡ Start.zeros ⌝ }
-{
-    Block {
-        w0: 0,
-        w1: 0,
-        w2: 0,
-        w3: 0,
-    }
-}
-
 // What b0 to b7 are loaded with.
 fn mode_block(mode: Mode) -> Block
     ensures { λ r. ⌜ bytesOf r ≡ littles 2 (mode-cells mode) ⌝ }
 {
     match mode {
-        Mode::Plain => zero_block(),
+        Mode::Plain => words::zero(),
         Mode::Sealed => Block {
             w0: 0x78656c41,
             w1: 0x20646b45,
@@ -81,7 +69,7 @@ pub fn load(low: Block, high: Block, iv: Block, mode: Mode) -> State
     let a = cells(iv, low);
     let b = cells(mode_block(mode), high);
     let l = Lfsr { a: a, b: b };
-    let zero = zero_block();
+    let zero = words::zero();
     State {
         lfsr: l,
         r1: zero,
@@ -158,14 +146,15 @@ fn sixteen_steps(low: Block, high: Block, iv: Block, mode: Mode) -> State
     into_r1(t, high)
 }
 
-fn blank_state() -> State
+// The all-zero state, which a refused start hands out.
+pub fn blank_state() -> State
     ensures { λ r. ⌜ registersOf r ≡ blank ⌝ }
 {
     let l = Lfsr {
         a: [0; 16],
         b: [0; 16],
     };
-    let zero = zero_block();
+    let zero = words::zero();
     State {
         lfsr: l,
         r1: zero,
@@ -263,12 +252,6 @@ fn loaded(s: State, low: Block, high: Block, inverse: &[u8; 256]) -> State
     uninitials(into_r1(t, low), 15, inverse)
 }
 
-pub fn same(x: Block, y: Block) -> bool
-    ensures { λ r. ⌜ r ≡ Trace.same (bytesOf x) (bytesOf y) ⌝ }
-{
-    (x.w0 == y.w0) & (x.w1 == y.w1) & (x.w2 == y.w2) & (x.w3 == y.w3)
-}
-
 // Whether a start in this mode under this key loads the state, with some IV.
 fn loads(s: State, low: Block, high: Block, mode: Mode) -> bool
     ensures { λ r. ⌜ r ≡ Trace.loads (bytesOf low ++ bytesOf high) mode (registersOf s) ⌝ }
@@ -279,13 +262,13 @@ fn loads(s: State, low: Block, high: Block, mode: Mode) -> bool
     let r1 = s.r1;
     let r2 = s.r2;
     let r3 = s.r3;
-    let zero = zero_block();
-    same(cipher::high_half(a), low)
-        & same(cipher::low_half(b), mode_block(mode))
-        & same(cipher::high_half(b), high)
-        & same(r1, zero)
-        & same(r2, zero)
-        & same(r3, zero)
+    let zero = words::zero();
+    words::same(cipher::high_half(a), low)
+        & words::same(cipher::low_half(b), mode_block(mode))
+        & words::same(cipher::high_half(b), high)
+        & words::same(r1, zero)
+        & words::same(r2, zero)
+        & words::same(r3, zero)
 }
 
 fn word64(lo: u32, hi: u32) -> u64

@@ -1,4 +1,3 @@
-pub mod Copying
 pub mod Suspending
 pub mod Resuming
 pub mod RoundTrip

@@ -8,8 +8,7 @@ use borrow.Author.Tests.{eq-eqb, le-ltb, lt-ltb}
 use lib.ListN.{length, take, drop, length-drop}
 use lib.Seq.{take-at, take-append-le, drop-append-le}
 use Rattle.scope.specs.Refusals.{granted}
-use Rattle.words.specs.Bytes.{Row, IsBlock}
-use Rattle.fields.specs.Fields.{part}
+use Rattle.words.specs.Bytes.{Row, IsBlock, part}
 use Rattle.cipher.specs.Step.{z}
 use Rattle.cipher.specs.Run.{forward, backward, made, moves}
 use Rattle.cipher.proofs.Moves.{moves-good, made-again}

@@ -6,12 +6,12 @@ use mathlib.Core.List.{List, _++_}
 use lib.Dec.{eqb, ltb}
 use lib.ListN.{length, drop}
 use Rattle.scope.specs.Refusals.{pick, refuse, granted, key-length, short-output, no-origin, out-of-phase, bad-block}
+use Rattle.words.specs.Bytes.{zeros}
 use Rattle.cipher.specs.Step.{z}
 use Rattle.cipher.specs.Run.{forward, backward, made, moves}
 use Rattle.start.specs.declared.Mode.the-variants.{Plain, Sealed}
 use Rattle.start.specs.Start.{start}
 use Rattle.start.specs.Trace.{Answer, Answer.origin, Answer.refused, trace}
-use Rattle.digest.specs.Digest.{zeros}
 use Rattle.session.specs.Sealing.{Sealing, drawn-at}
 use Rattle.session.specs.Calls.{Given, nobody}
 use Rattle.layout.specs.Block.{Kept, block-of, read}

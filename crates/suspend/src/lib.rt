@@ -11,16 +11,11 @@ ghost use Rattle.kept.specs.Machine.{keptOf};
 ghost use Rattle.suspend.specs.Calls;
 ghost use Rattle.suspend.specs.Calls.{suspend-call, turned-away, resume-call};
 ghost use Rattle.suspend.specs.Machine.{Resumes};
-use cipher::State;
-use digest::Held;
-use ghash::Element;
 use kept::Fields;
-use lfsr::Lfsr;
 use session::Said;
 use session::Session;
 use start::Mode;
 use start::Traced;
-use words::Block;
 
 // A block to the front of an output. Every other byte stays.
 fn copy(block: [u8; 512], out: &mut [u8])
@@ -78,37 +73,7 @@ pub struct Resumed {
 fn refused(n: u64) -> Resumed
     ensures { λ r. ⌜ Resumes (turned-away n) r ⌝ }
 {
-    let zero = Block {
-        w0: 0,
-        w1: 0,
-        w2: 0,
-        w3: 0,
-    };
-    let none = Element { hi: 0, lo: 0 };
-    let l = Lfsr {
-        a: [0; 16],
-        b: [0; 16],
-    };
-    let state = State {
-        lfsr: l,
-        r1: zero,
-        r2: zero,
-        r3: zero,
-    };
-    let held = Held {
-        acc: none,
-        pending: [0; 16],
-    };
-    let session = Session {
-        phase: 2,
-        ad: 0,
-        text: 0,
-        state: state,
-        h: none,
-        pad: zero,
-        current: zero,
-        held: held,
-    };
+    let session = session::nobody();
     Resumed {
         answer: n,
         iv: [0; 16],
@@ -126,25 +91,20 @@ fn iv_bytes(lo: u64, hi: u64) -> [u8; 16]
     r
 }
 
-// The session of what was kept: H and the end pad are the first two blocks after the start, the current block that of the step before.
+// The session of what was kept: H and the end pad are those of a session begun under the IV, the current block that of the step before.
 fn revived(key: &[u8], iv: [u8; 16], k: Fields) -> Session
     requires { ⌜ length (now key) ≡ 32 ⌝ }
     ensures { λ r. ⌜ sealingOf r ≡ Calls.revived (now (key .entry)) iv (keptOf k) ⌝ }
 {
     let state = k.state;
     let held = k.held;
-    let begun = start::start(key, &iv, Mode::Sealed);
-    let s0 = begun.state;
-    let sbox = aes::sbox();
-    let w0 = cipher::forward(s0, &sbox);
-    let z0 = w0.z;
-    let s1 = w0.state;
-    let w1 = cipher::forward(s1, &sbox);
-    let pad = w1.z;
+    let begun = session::begin(key, &iv);
+    let first = begun.session;
+    let h = first.h;
+    let pad = first.pad;
     let inverse = aes::inverse_sbox();
     let before = cipher::backward(state, &inverse);
     let current = before.z;
-    let h = ghash::from_block(z0);
     Session {
         phase: k.phase,
         ad: k.ad,

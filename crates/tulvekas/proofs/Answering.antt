@@ -11,7 +11,7 @@ use lib.Seq.{sets}
 use Rattle.scope.specs.Refusals.{pick, granted}
 use Rattle.words.specs.Bytes.{little}
 use Rattle.words.proofs.Bytes.{little-long}
-use Rattle.fields.proofs.Writing.{put-next, put-front}
+use Rattle.words.proofs.Writing.{put-next, put-front}
 use Rattle.session.specs.Sealing.{Sealing}
 use Rattle.tulvekas.specs.Order.{next, room, written}
 use Rattle.tulvekas.specs.SessionBytes.{session-bytes, sealing-at, Leaves}

@@ -8,7 +8,7 @@ use lib.ListN.{length, drop}
 use Rattle.scope.specs.Refusals.{refuse, granted}
 use Rattle.start.specs.Start.{start-number}
 use Rattle.page.specs.Page.{cipher-of}
-use Rattle.page.specs.Calls.{over, seal-number, seal-out}
+use Rattle.page.specs.Calls.{over-limit, seal-number, seal-out}
 use Rattle.tulvekas.specs.Order.{next}
 use Rattle.tulvekas.specs.Pages.{seal-answer}
 use Rattle.tulvekas.proofs.Answering.{granted-again, below-refuses, below-accepts, nothing-later, short, fits}
@@ -25,7 +25,7 @@ four false = refl
 module _ (key iv d t : List ℕ) where
   -- what comes behind the lengths of key and IV
   abbrev rest : (out : List ℕ) → ℕ
-  rest out = refuse (over d t) 3 (refuse (ltb (length out) (length t)) 4 0)
+  rest out = refuse (over-limit d t) 3 (refuse (ltb (length out) (length t)) 4 0)
 
   seal-first : (out : List ℕ) → next (start-number key iv) (rest out) ≡ seal-number key iv d t out
   unfolding seal-number start-number
@@ -42,10 +42,10 @@ module _ (key iv d t : List ℕ) where
       rest-is : (out : List ℕ) → next (rest out) 4 ≡ next (seal-number key iv d t out) 4
       rest-is out = ap (λ (m : ℕ). next m 4) (below-accepts (start-number key iv) (rest out) (sym z ∙ e) ∙ seal-first out)
 
-      pub tag-over : over d t ≡ true → (out : List ℕ) → 3 ≡ next (seal-number key iv d t out) 4
+      pub tag-over : over-limit d t ≡ true → (out : List ℕ) → 3 ≡ next (seal-number key iv d t out) 4
       tag-over h out = let k : 3 ≡ next (rest out) 4 = rw h in k ∙ rest-is out
 
-      pub tag-short : over d t ≡ false → (out : List ℕ) → 4 ≡ next (seal-number key iv d t out) 4
+      pub tag-short : over-limit d t ≡ false → (out : List ℕ) → 4 ≡ next (seal-number key iv d t out) 4
       tag-short h out = let k : 4 ≡ next (rest out) 4 = rw h (four (ltb (length out) (length t))) in k ∙ rest-is out
 
   module _ (out tag : List ℕ) where

@@ -6,18 +6,18 @@ use native.Mathlib.Nat.{mod-eq-of-lt}
 use native.Mathlib.Omega.{arith}
 use lib.ListN.{length, getD, drop}
 use lib.Seq.{sets}
-use Rattle.words.specs.Bytes.{little, number, Row, IsBlock}
+use Rattle.words.specs.Bytes.{little, number, Row, IsBlock, joined}
 use Rattle.words.proofs.Rows.{row-append}
 use Rattle.words.proofs.Bytes.{little-long, little-row, number-little}
-use Rattle.fields.proofs.Parts.{At, join, down, here}
-use Rattle.fields.proofs.Writing.{put-next, put-front}
+use Rattle.words.proofs.Parts.{At, down, here}
+use Rattle.words.proofs.Writing.{put-next, put-front}
 use Rattle.layout.specs.Block.{registers-bytes, registers-at}
 use Rattle.layout.proofs.RegisterBytes.{good-row, registers-back}
 use Rattle.session.specs.Sealing.{Sealing}
 use Rattle.tulvekas.specs.SessionBytes.{session-bytes, sealing-at, Sized, Leaves}
 
 regroup : (f0 f1 f2 f3 f4 f5 f6 f7 f8 r : List ℕ)
-    → (f0 ++ f1 ++ f2 ++ f3 ++ f4 ++ f5 ++ f6 ++ f7 ++ f8) ++ r ≡ join (f0 ∷ f1 ∷ f2 ∷ f3 ∷ f4 ∷ f5 ∷ f6 ∷ f7 ∷ f8 ∷ r ∷ [])
+    → (f0 ++ f1 ++ f2 ++ f3 ++ f4 ++ f5 ++ f6 ++ f7 ++ f8) ++ r ≡ joined (f0 ∷ f1 ∷ f2 ∷ f3 ∷ f4 ∷ f5 ∷ f6 ∷ f7 ∷ f8 ∷ r ∷ [])
 regroup f0 f1 f2 f3 f4 f5 f6 f7 f8 r = simp (append-assoc, append-nil)
 
 in-parts : (f f4 f5 f6 f7 f8 : List ℕ) → f ++ (f4 ++ f5 ++ f6) ++ (f7 ++ f8) ≡ f ++ f4 ++ f5 ++ f6 ++ f7 ++ f8

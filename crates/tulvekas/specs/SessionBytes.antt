@@ -7,8 +7,7 @@ use mathlib.Core.Path.{_≡_}
 use mathlib.Core.List.{List, _++_}
 use lib.ListN.{getD}
 use Rattle.scope.specs.Refusals.{granted}
-use Rattle.words.specs.Bytes.{little, number, IsBlock}
-use Rattle.fields.specs.Fields.{part}
+use Rattle.words.specs.Bytes.{little, number, IsBlock, part}
 use Rattle.cipher.specs.Registers.{Good}
 use Rattle.layout.specs.Block.{registers-bytes, registers-at}
 use Rattle.session.specs.Sealing.{Sealing}

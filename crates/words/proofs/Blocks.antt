@@ -1,18 +1,22 @@
--- The machine's block, four words of 32 bits, against its 16 bytes: where it is read from, where it is written to, and sums of two.
-use mathlib.Core.Path.{_≡_, refl, sym, ap, ap₂, subst, _∙_}
-use mathlib.Core.List.{List, [], _∷_, _++_}
-use Prim.Native.Nat.{ℕ, zero, suc, _+_, _-_, _*_, _%_, _^_, _<_, _≤_}
+-- The machine's block, four words of 32 bits, against its 16 bytes: where it is read from, where it is written to, and what is done to two
+-- word by word.
+use mathlib.Core.Path.{_≡_, refl, sym, ap, ap₂, _∙_}
+use mathlib.Core.Bool.{Bool, true, _&&_}
+use mathlib.Core.List.{List, [], _∷_}
+use Prim.Native.Nat.{ℕ, zero, suc, _+_, _-_, _*_, _^_, _<_, _≤_}
 use native.Mathlib.Omega.{arith}
-use lib.Dec.{lit<}
+use borrow.Author.Tests.{eq-eqb, eqb-true}
+use lib.Dec.{eqb, lit<}
 use lib.ListN.{length, getD, take, drop, length-take, length-drop}
 use lib.Seq.{sets}
-use Rattle.words.specs.Xor.{xors}
-use Rattle.words.specs.Bytes.{little, number, littles, numbers, Row, IsBlock}
-use Rattle.words.specs.Sums.{sums, differences, _⊞_, _⊟_}
+use Rattle.words.specs.Xor.{pointwise}
+use Rattle.words.specs.Bytes.{little, number, littles, numbers, same, Row, IsBlock}
+use Rattle.words.specs.Sums.{wordwise}
 use Rattle.words.specs.Machine.{wordsOf, bytesOf}
 use Rattle.words.specs.declared.Block.{Block}
-use Rattle.words.proofs.Rows.{Below, below-take, below-drop, tab, window, sets-append}
-use Rattle.words.proofs.Bytes.{little-long, littles-numbers, numbers-littles}
+use Rattle.words.proofs.Tests.{and-left, and-right, both-ways, same-refl, same-eq}
+use Rattle.words.proofs.Rows.{Below, below-take, below-drop, tab, window}
+use Rattle.words.proofs.Bytes.{littles-numbers, numbers-littles}
 use Rattle.words.proofs.Sums.{block-of}
 
 pub bytesOf-block : (x : Block) → IsBlock (bytesOf x)
@@ -26,15 +30,18 @@ pub record Words (x : Block) : Type 0 where
   pub in-2 : x .w2 < 2 ^ 32
   pub in-3 : x .w3 < 2 ^ 32
 
-words-row : (x : Block) → Words x → Row 4 (2 ^ 32) (wordsOf x)
-words-row x w = record { long = refl; below = at }
+pub row-four : (a b c d : ℕ) → a < 2 ^ 32 → b < 2 ^ 32 → c < 2 ^ 32 → d < 2 ^ 32 → Row 4 (2 ^ 32) (a ∷ b ∷ c ∷ d ∷ [])
+row-four a b c d ha hb hc hd = record { long = refl; below = at }
   where
-    at : (i : ℕ) → getD (wordsOf x) i 0 < 2 ^ 32
-    at zero = w .in-0
-    at (suc zero) = w .in-1
-    at (suc (suc zero)) = w .in-2
-    at (suc (suc (suc zero))) = w .in-3
+    at : (i : ℕ) → getD (a ∷ b ∷ c ∷ d ∷ []) i 0 < 2 ^ 32
+    at zero = ha
+    at (suc zero) = hb
+    at (suc (suc zero)) = hc
+    at (suc (suc (suc zero))) = hd
     at (suc (suc (suc (suc i)))) = lit< tt
+
+words-row : (x : Block) → Words x → Row 4 (2 ^ 32) (wordsOf x)
+words-row x w = row-four (x .w0) (x .w1) (x .w2) (x .w3) (w .in-0) (w .in-1) (w .in-2) (w .in-3)
 
 pub words-bytes : (x : Block) → Words x → numbers 4 4 (bytesOf x) ≡ wordsOf x
 unfolding bytesOf
@@ -54,14 +61,47 @@ bytesOf-one x y p q e =
 pub four : {a b c d a′ b′ c′ d′ : ℕ} → a ≡ a′ → b ≡ b′ → c ≡ c′ → d ≡ d′ → _≡_ {A = List ℕ} (a ∷ b ∷ c ∷ d ∷ []) (a′ ∷ b′ ∷ c′ ∷ d′ ∷ [])
 four p q r s = λ i. p i ∷ q i ∷ r i ∷ s i ∷ []
 
-module _ (x y z : Block) (p : Words x) (q : Words y) where
-  pub is-sum : wordsOf z ≡ sums (wordsOf x) (wordsOf y) → bytesOf z ≡ bytesOf x ⊞ bytesOf y
-  unfolding bytesOf _⊞_
-  is-sum e = ap (littles 4) e ∙ sym (ap₂ (λ (s t : List ℕ). littles 4 (sums s t)) (words-bytes x p) (words-bytes y q))
+-- what is done word by word
+pub is-wordwise : (f : ℕ → ℕ → ℕ) (x y z : Block) → Words x → Words y → wordsOf z ≡ pointwise f (wordsOf x) (wordsOf y)
+    → bytesOf z ≡ wordwise f (bytesOf x) (bytesOf y)
+unfolding bytesOf
+is-wordwise f x y z p q e =
+    ap (littles 4) e ∙ sym (ap₂ (λ (s t : List ℕ). littles 4 (pointwise f s t)) (words-bytes x p) (words-bytes y q))
 
-  pub is-difference : wordsOf z ≡ differences (wordsOf x) (wordsOf y) → bytesOf z ≡ bytesOf x ⊟ bytesOf y
-  unfolding bytesOf _⊟_
-  is-difference e = ap (littles 4) e ∙ sym (ap₂ (λ (s t : List ℕ). littles 4 (differences s t)) (words-bytes x p) (words-bytes y q))
+-- two blocks are the same where their words are
+pub same-words : (x y : Block) → Words x → Words y
+    → (eqb (x .w0) (y .w0) && eqb (x .w1) (y .w1) && eqb (x .w2) (y .w2) && eqb (x .w3) (y .w3)) ≡ same (bytesOf x) (bytesOf y)
+same-words x y p q = both-ways (e0 && e1 && e2 && e3) (same (bytesOf x) (bytesOf y)) forth back
+  where
+    e0 : Bool
+    e0 = eqb (x .w0) (y .w0)
+
+    e1 : Bool
+    e1 = eqb (x .w1) (y .w1)
+
+    e2 : Bool
+    e2 = eqb (x .w2) (y .w2)
+
+    e3 : Bool
+    e3 = eqb (x .w3) (y .w3)
+
+    forth : (e0 && e1 && e2 && e3) ≡ true → same (bytesOf x) (bytesOf y) ≡ true
+    forth e =
+        let f2 = and-left (e0 && e1 && e2) e3 e in
+        let f1 = and-left (e0 && e1) e2 f2 in
+        let same-block : x ≡ y = λ i. record {
+          w0 = eqb-true (x .w0) (y .w0) (and-left e0 e1 f1) i;
+          w1 = eqb-true (x .w1) (y .w1) (and-right e0 e1 f1) i;
+          w2 = eqb-true (x .w2) (y .w2) (and-right (e0 && e1) e2 f2) i;
+          w3 = eqb-true (x .w3) (y .w3) (and-right (e0 && e1 && e2) e3 e) i;
+        } in
+        ap (λ (t : Block). same (bytesOf x) (bytesOf t)) (sym same-block) ∙ same-refl (bytesOf x)
+
+    back : same (bytesOf x) (bytesOf y) ≡ true → (e0 && e1 && e2 && e3) ≡ true
+    back e =
+        let f : x ≡ y = bytesOf-one x y p q (same-eq (bytesOf x) (bytesOf y) e) in
+        λ i. eq-eqb (x .w0) (y .w0) (ap (λ (t : Block). t .w0) f) i && eq-eqb (x .w1) (y .w1) (ap (λ (t : Block). t .w1) f) i
+        && eq-eqb (x .w2) (y .w2) (ap (λ (t : Block). t .w2) f) i && eq-eqb (x .w3) (y .w3) (ap (λ (t : Block). t .w3) f) i
 
 -- ---- read from a slice
 

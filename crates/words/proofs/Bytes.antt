@@ -6,12 +6,12 @@ use Prim.Native.Nat.{ℕ, zero, suc, _+_, _-_, _*_, _/_, _%_, _^_, _<_, _≤_}
 use native.Mathlib.Omega.{arith}
 use native.Mathlib.Nat.{mod-lt, mul-assoc, pow-succ'}
 use lib.Dec.{lit<}
-use lib.ListN.{length, getD, take, drop, length-append, length-take, length-drop, take-append-drop}
-use lib.Seq.{take-at, drop-at}
+use lib.ListN.{length, take, drop, length-append, length-drop, take-append-drop}
+use lib.Seq.{take-at, drop-at, take-append-le, drop-append-le}
 use Rattle.words.specs.Xor.{_⊕_, xors}
 use Rattle.words.specs.Bytes.{little, number, littles, numbers, Row}
 use Rattle.words.proofs.XorLaws.{⊕-mod, ⊕-shr}
-use Rattle.words.proofs.Rows.{Below, row-take, row-drop, row-append, below-append, xors-append, tab-all}
+use Rattle.words.proofs.Rows.{Below, row-take, row-drop, row-append, below-append, xors-append}
 
 -- ---- one number
 
@@ -126,6 +126,21 @@ numbers-littles k (suc n) (x ∷ xs) r =
     (ap number (take-at (little k x) (littles k xs) k (little-long k x)) ∙ number-little k x (r .below 0))
     (ap (numbers k n) (drop-at (little k x) (littles k xs) k (little-long k x))
     ∙ numbers-littles k n xs (record { long = omega (arith, r .long); below = λ i. r .below (suc i) }))
+
+-- from the front of a longer list
+pub numbers-front : (k n : ℕ) (u v : List ℕ) → n * k ≤ length u → numbers k n (u ++ v) ≡ numbers k n u
+unfolding numbers
+numbers-front k zero u v h = refl
+numbers-front k (suc n) u v h =
+    let h2 : k ≤ length u = first k n (length u) h in
+    ap₂ (λ (a : List ℕ) (b : List ℕ). number a ∷ b) (take-append-le k u v h2)
+    (ap (numbers k n) (drop-append-le k u v h2) ∙ numbers-front k n (drop k u) v (rw (length-drop k u) (rest k n (length u) h)))
+  where
+    first : (k n l : ℕ) → suc n * k ≤ l → k ≤ l
+    first k n l h = omega arith
+
+    rest : (k n l : ℕ) → suc n * k ≤ l → n * k ≤ l - k
+    rest k n l h = omega arith
 
 -- ---- one number of two
 

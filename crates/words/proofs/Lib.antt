@@ -1,5 +1,9 @@
 pub mod XorLaws
+pub mod Tests
 pub mod Rows
 pub mod Bytes
+pub mod Parts
+pub mod Writing
+pub mod Fronts
 pub mod Sums
 pub mod Blocks

@@ -1,16 +1,17 @@
 -- Rows of numbers of one size: what parts, joins and xors of them are; and the list as what stands at its places.
-use mathlib.Core.Path.{_≡_, refl, sym, ap, ap₂, subst, _∙_}
-use mathlib.Core.Bool.{Bool, true, false, _&&_}
+use mathlib.Core.Path.{_≡_, refl, sym, ap, ap₂, _∙_}
+use mathlib.Core.Bool.{Bool, true, _&&_}
 use mathlib.Core.List.{List, [], _∷_, _++_}
 use Prim.Native.Nat.{ℕ, zero, suc, _+_, _-_, _^_, _<_, _≤_}
 use native.Mathlib.Omega.{arith}
 use borrow.Author.Tests.{ltb-true}
-use lib.Dec.{ltb}
-use lib.ListN.{length, getD, set, take, drop, replicate, length-append, length-take, length-drop}
+use lib.Dec.{ltb, lit<}
+use lib.ListN.{length, getD, set, take, drop, replicate, length-append, length-take, length-drop, length-set, length-replicate}
 use lib.Seq.{getD-drop, drop-cons, sets}
-use Rattle.words.specs.Xor.{_⊕_, xors}
-use Rattle.words.specs.Bytes.{Row}
-use Rattle.words.proofs.XorLaws.{⊕-lt, ⊕-twice, ⊕-comm, ⊕-zero-l, ⊕-zero-r, xor}
+use Rattle.words.specs.Xor.{_⊕_, pointwise, xors}
+use Rattle.words.specs.Bytes.{Row, IsBlock, zeros}
+use Rattle.words.proofs.XorLaws.{⊕-lt, ⊕-twice, ⊕-comm, ⊕-zero-r}
+use Rattle.words.proofs.Tests.{and-left, and-right}
 
 -- every element is below m, wherever one looks (past the end stands 0)
 abbrev pub Below : ℕ → List ℕ → Type 0
@@ -43,45 +44,88 @@ pub row-append : (m j k : ℕ) {s t : List ℕ} → Row j m s → Row k m t → 
 row-append m j k {s} {t} p q =
     record { long = length-append s t ∙ ap₂ _+_ (p .long) (q .long); below = below-append m s t (p .below) (q .below) }
 
+pub below-set : (m : ℕ) (s : List ℕ) (i b : ℕ) → b < m → Below m s → Below m (set s i b)
+below-set m [] i b k f j = f j
+below-set m (a ∷ s) zero b k f zero = k
+below-set m (a ∷ s) zero b k f (suc j) = f (suc j)
+below-set m (a ∷ s) (suc i) b k f zero = f 0
+below-set m (a ∷ s) (suc i) b k f (suc j) = below-set m s i b k (λ x. f (suc x)) j
+
+pub row-set : (n m : ℕ) {s : List ℕ} (i b : ℕ) → b < m → Row n m s → Row n m (set s i b)
+row-set n m {s} i b k r = record { long = length-set s i b ∙ r .long; below = below-set m s i b k (r .below) }
+
+-- a run of zeros
+pub zeros-row : (n m : ℕ) → 0 < m → Row n m (replicate n 0)
+zeros-row n m z = record { long = length-replicate {A = ℕ} n 0; below = small n }
+  where
+    small : (n : ℕ) → Below m (replicate n 0)
+    small zero i = z
+    small (suc n) zero = z
+    small (suc n) (suc i) = small n i
+
+pub zeros-block : IsBlock zeros
+zeros-block = zeros-row 16 256 (lit< tt)
+
+-- ---- element by element
+
+module _ (f : ℕ → ℕ → ℕ) where
+  pub pointwise-length : (s t : List ℕ) → length s ≡ length t → length (pointwise f s t) ≡ length s
+  pointwise-length [] t e = refl
+  pointwise-length (a ∷ s) [] e = absurd (omega arith)
+  pointwise-length (a ∷ s) (b ∷ t) e = ap suc (pointwise-length s t (omega arith))
+
+  pointwise-below : (m : ℕ) → ((x y : ℕ) → x < m → y < m → f x y < m) → (s t : List ℕ) → Below m s → Below m t → Below m (pointwise f s t)
+  pointwise-below m h [] t p q i = p i
+  pointwise-below m h (a ∷ s) [] p q i = q i
+  pointwise-below m h (a ∷ s) (b ∷ t) p q zero = h a b (p 0) (q 0)
+  pointwise-below m h (a ∷ s) (b ∷ t) p q (suc i) = pointwise-below m h s t (λ j. p (suc j)) (λ j. q (suc j)) i
+
+  pub pointwise-row : (m n : ℕ) → ((x y : ℕ) → x < m → y < m → f x y < m) → {s t : List ℕ} → Row n m s → Row n m t → Row n m (pointwise f s t)
+  pointwise-row m n h {s} {t} p q =
+      record { long = pointwise-length s t (p .long ∙ sym (q .long)) ∙ p .long; below = pointwise-below m h s t (p .below) (q .below) }
+
+  pub pointwise-comm : ((x y : ℕ) → f x y ≡ f y x) → (s t : List ℕ) → pointwise f s t ≡ pointwise f t s
+  pointwise-comm h [] [] = refl
+  pointwise-comm h [] (b ∷ t) = refl
+  pointwise-comm h (a ∷ s) [] = refl
+  pointwise-comm h (a ∷ s) (b ∷ t) = ap₂ (λ (x : ℕ) (l : List ℕ). x ∷ l) (h a b) (pointwise-comm h s t)
+
+  pointwise-append : (s t u v : List ℕ) → length s ≡ length t → pointwise f (s ++ u) (t ++ v) ≡ pointwise f s t ++ pointwise f u v
+  pointwise-append [] [] u v e = refl
+  pointwise-append [] (b ∷ t) u v e = absurd (omega arith)
+  pointwise-append (a ∷ s) [] u v e = absurd (omega arith)
+  pointwise-append (a ∷ s) (b ∷ t) u v e = ap (λ (l : List ℕ). f a b ∷ l) (pointwise-append s t u v (omega arith))
+
+-- g undoes f where it does so at each place
+pub pointwise-undone : (f g : ℕ → ℕ → ℕ) (s t : List ℕ) → length s ≡ length t
+    → ((i : ℕ) → g (f (getD s i 0) (getD t i 0)) (getD t i 0) ≡ getD s i 0) → pointwise g (pointwise f s t) t ≡ s
+pointwise-undone f g [] t e h = refl
+pointwise-undone f g (a ∷ s) [] e h = absurd (omega arith)
+pointwise-undone f g (a ∷ s) (b ∷ t) e h =
+    ap₂ (λ (x : ℕ) (l : List ℕ). x ∷ l) (h 0) (pointwise-undone f g s t (omega arith) (λ i. h (suc i)))
+
 -- ---- xor
 
 pub xors-length : (s t : List ℕ) → length s ≡ length t → length (xors s t) ≡ length s
 unfolding xors
-xors-length [] t e = refl
-xors-length (a ∷ s) [] e = absurd (omega arith)
-xors-length (a ∷ s) (b ∷ t) e = ap suc (xors-length s t (omega arith))
-
-xors-below : (k : ℕ) (s t : List ℕ) → Below (2 ^ k) s → Below (2 ^ k) t → Below (2 ^ k) (xors s t)
-unfolding xors
-xors-below k [] t p q i = p i
-xors-below k (a ∷ s) [] p q i = q i
-xors-below k (a ∷ s) (b ∷ t) p q zero = ⊕-lt k a b (p 0) (q 0)
-xors-below k (a ∷ s) (b ∷ t) p q (suc i) = xors-below k s t (λ j. p (suc j)) (λ j. q (suc j)) i
+xors-length = pointwise-length _⊕_
 
 pub xors-row : (k n : ℕ) {s t : List ℕ} → Row n (2 ^ k) s → Row n (2 ^ k) t → Row n (2 ^ k) (xors s t)
-xors-row k n {s} {t} p q =
-    record { long = xors-length s t (p .long ∙ sym (q .long)) ∙ p .long; below = xors-below k s t (p .below) (q .below) }
+unfolding xors
+xors-row k n = pointwise-row _⊕_ (2 ^ k) n (⊕-lt k)
 
 -- a second xor undoes the first
 pub xors-twice : (s t : List ℕ) → length s ≡ length t → xors (xors s t) t ≡ s
 unfolding xors
-xors-twice [] t e = refl
-xors-twice (a ∷ s) [] e = absurd (omega arith)
-xors-twice (a ∷ s) (b ∷ t) e = ap₂ (λ (x : ℕ) (l : List ℕ). x ∷ l) (sym (⊕-twice a b)) (xors-twice s t (omega arith))
+xors-twice s t e = pointwise-undone _⊕_ _⊕_ s t e (λ i. sym (⊕-twice (getD s i 0) (getD t i 0)))
 
 pub xors-comm : (s t : List ℕ) → xors s t ≡ xors t s
 unfolding xors
-xors-comm [] [] = refl
-xors-comm [] (b ∷ t) = refl
-xors-comm (a ∷ s) [] = refl
-xors-comm (a ∷ s) (b ∷ t) = ap₂ (λ (x : ℕ) (l : List ℕ). x ∷ l) (⊕-comm a b) (xors-comm s t)
+xors-comm = pointwise-comm _⊕_ ⊕-comm
 
 pub xors-append : (s t u v : List ℕ) → length s ≡ length t → xors (s ++ u) (t ++ v) ≡ xors s t ++ xors u v
 unfolding xors
-xors-append [] [] u v e = refl
-xors-append [] (b ∷ t) u v e = absurd (omega arith)
-xors-append (a ∷ s) [] u v e = absurd (omega arith)
-xors-append (a ∷ s) (b ∷ t) u v e = ap (λ (l : List ℕ). (a ⊕ b) ∷ l) (xors-append s t u v (omega arith))
+xors-append = pointwise-append _⊕_
 
 pub xors-zeros : (n : ℕ) (s : List ℕ) → length s ≡ n → xors s (replicate n 0) ≡ s
 unfolding xors
@@ -112,14 +156,6 @@ tab-all n s e = ap (λ (m : ℕ). tab m 0 s) (sym e) ∙ tab-length s
 abbrev pub allBelow : ℕ → List ℕ → Bool
 allBelow m [] = true
 allBelow m (b ∷ s) = ltb b m && allBelow m s
-
-and-left : (a b : Bool) → (a && b) ≡ true → a ≡ true
-and-left true b e = refl
-and-left false b e = e
-
-and-right : (a b : Bool) → (a && b) ≡ true → b ≡ true
-and-right true b e = e
-and-right false b e = cc
 
 pub below-test : (m : ℕ) (s : List ℕ) → 0 < m → allBelow m s ≡ true → Below m s
 below-test m [] z e i = z

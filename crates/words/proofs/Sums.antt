@@ -1,81 +1,19 @@
--- ⊞ and ⊟ undo each other on blocks, and with xor they keep blocks blocks.
-use mathlib.Core.Path.{_≡_, refl, sym, ap, ap₂, subst, _∙_}
-use mathlib.Core.List.{List, [], _∷_, _++_}
-use Prim.Native.Nat.{ℕ, zero, suc, _+_, _-_, _*_, _/_, _%_, _^_, _<_, _≤_}
+-- ⊞ and ⊟ undo each other on blocks, and with xor they keep blocks blocks: each is one law over what is done to two words.
+use mathlib.Core.Path.{_≡_, sym, ap, _∙_}
+use mathlib.Core.List.{List}
+use Prim.Native.Nat.{ℕ, _+_, _-_, _*_, _%_, _^_, _<_}
 use native.Mathlib.Omega.{arith}
 use native.Mathlib.Nat.{mod-lt, add-comm}
 use lib.Dec.{lit<}
-use lib.ListN.{length, getD, replicate}
-use Rattle.words.specs.Xor.{xors}
+use lib.ListN.{length}
+use Rattle.words.specs.Xor.{pointwise, xors}
 use Rattle.words.specs.Bytes.{littles, numbers, Row, IsBlock}
-use Rattle.words.specs.Sums.{sums, differences, _⊞_, _⊟_}
-use Rattle.words.proofs.Rows.{Below, xors-row, xors-twice}
+use Rattle.words.specs.Sums.{add32, sub32, wordwise, _⊞_, _⊟_}
+use Rattle.words.proofs.Rows.{pointwise-row, pointwise-comm, pointwise-undone, xors-row, xors-twice}
 use Rattle.words.proofs.Bytes.{littles-long, littles-below, numbers-row, littles-numbers, numbers-littles}
 
 abbrev IsWords : List ℕ → Type 0
 IsWords = Row 4 (2 ^ 32)
-
-sums-row : (n : ℕ) (s t : List ℕ) → length s ≡ n → length t ≡ n → Row n (2 ^ 32) (sums s t)
-unfolding sums
-sums-row n s t p q = record { long = long n s t p q; below = small s t }
-  where
-    long : (n : ℕ) (s t : List ℕ) → length s ≡ n → length t ≡ n → length (sums s t) ≡ n
-    long n [] t p q = p
-    long n (a ∷ s) [] p q = q
-    long zero (a ∷ s) (b ∷ t) p q = absurd (omega arith)
-    long (suc n) (a ∷ s) (b ∷ t) p q = ap suc (long n s t (omega arith) (omega arith))
-
-    small : (s t : List ℕ) → Below (2 ^ 32) (sums s t)
-    small [] t i = lit< tt
-    small (a ∷ s) [] i = lit< tt
-    small (a ∷ s) (b ∷ t) zero = mod-lt (a + b) (lit< tt)
-    small (a ∷ s) (b ∷ t) (suc i) = small s t i
-
-differences-row : (n : ℕ) (s t : List ℕ) → length s ≡ n → length t ≡ n → Row n (2 ^ 32) (differences s t)
-unfolding differences
-differences-row n s t p q = record { long = long n s t p q; below = small s t }
-  where
-    long : (n : ℕ) (s t : List ℕ) → length s ≡ n → length t ≡ n → length (differences s t) ≡ n
-    long n [] t p q = p
-    long n (a ∷ s) [] p q = q
-    long zero (a ∷ s) (b ∷ t) p q = absurd (omega arith)
-    long (suc n) (a ∷ s) (b ∷ t) p q = ap suc (long n s t (omega arith) (omega arith))
-
-    small : (s t : List ℕ) → Below (2 ^ 32) (differences s t)
-    small [] t i = lit< tt
-    small (a ∷ s) [] i = lit< tt
-    small (a ∷ s) (b ∷ t) zero = mod-lt (a + (2 ^ 32 - b)) (lit< tt)
-    small (a ∷ s) (b ∷ t) (suc i) = small s t i
-
-sums-comm : (s t : List ℕ) → sums s t ≡ sums t s
-unfolding sums
-sums-comm [] [] = refl
-sums-comm [] (b ∷ t) = refl
-sums-comm (a ∷ s) [] = refl
-sums-comm (a ∷ s) (b ∷ t) = ap₂ (λ (n : ℕ) (l : List ℕ). n % 2 ^ 32 ∷ l) (add-comm a b) (sums-comm s t)
-
-take-off : (x y : ℕ) → x < 2 ^ 32 → y < 2 ^ 32 → ((x + y) % 2 ^ 32 + (2 ^ 32 - x)) % 2 ^ 32 ≡ y
-take-off x y hx hy = omega arith
-
-put-back : (x y : ℕ) → x < 2 ^ 32 → y < 2 ^ 32 → (y + (x + (2 ^ 32 - y)) % 2 ^ 32) % 2 ^ 32 ≡ x
-put-back x y hx hy = omega arith
-
--- what was added first is what is taken off
-less-sum : (s t : List ℕ) → length s ≡ length t → Below (2 ^ 32) s → Below (2 ^ 32) t → differences (sums s t) s ≡ t
-unfolding sums differences
-less-sum [] [] e p q = refl
-less-sum [] (b ∷ t) e p q = absurd (omega arith)
-less-sum (a ∷ s) [] e p q = absurd (omega arith)
-less-sum (a ∷ s) (b ∷ t) e p q =
-    ap₂ (λ (n : ℕ) (l : List ℕ). n ∷ l) (take-off a b (p 0) (q 0)) (less-sum s t (omega arith) (λ i. p (suc i)) (λ i. q (suc i)))
-
-sum-less : (s t : List ℕ) → length s ≡ length t → Below (2 ^ 32) s → Below (2 ^ 32) t → sums t (differences s t) ≡ s
-unfolding sums differences
-sum-less [] [] e p q = refl
-sum-less [] (b ∷ t) e p q = absurd (omega arith)
-sum-less (a ∷ s) [] e p q = absurd (omega arith)
-sum-less (a ∷ s) (b ∷ t) e p q =
-    ap₂ (λ (n : ℕ) (l : List ℕ). n ∷ l) (put-back a b (p 0) (q 0)) (sum-less s t (omega arith) (λ i. p (suc i)) (λ i. q (suc i)))
 
 pub block-of : (xs : List ℕ) → length xs ≡ 4 → IsBlock (littles 4 xs)
 block-of xs e = record { long = littles-long 4 xs ∙ ap (λ (n : ℕ). n * 4) e; below = littles-below 4 xs }
@@ -83,36 +21,57 @@ block-of xs e = record { long = littles-long 4 xs ∙ ap (λ (n : ℕ). n * 4) e
 pub words-of : {s : List ℕ} → IsBlock s → IsWords (numbers 4 4 s)
 words-of r = numbers-row 4 4 (lit< tt) r
 
+-- of any two words f makes a word
+abbrev Makes : (ℕ → ℕ → ℕ) → Type 0
+Makes f = (x y : ℕ) → x < 2 ^ 32 → y < 2 ^ 32 → f x y < 2 ^ 32
+
+add32-makes : Makes add32
+add32-makes x y hx hy = mod-lt (x + y) (lit< tt)
+
+sub32-makes : Makes sub32
+sub32-makes x y hx hy = mod-lt (x + (2 ^ 32 - y)) (lit< tt)
+
 module _ (x y : List ℕ) (p : IsBlock x) (q : IsBlock y) where
+  module _ (f : ℕ → ℕ → ℕ) (m : Makes f) where
+    words-made : IsWords (pointwise f (numbers 4 4 x) (numbers 4 4 y))
+    words-made = pointwise-row f (2 ^ 32) 4 m (words-of p) (words-of q)
+
+    wordwise-block : IsBlock (wordwise f x y)
+    wordwise-block = block-of _ (words-made .long)
+
+    -- what undoes f word by word undoes it
+    wordwise-undone : (g : ℕ → ℕ → ℕ) → ((a b : ℕ) → a < 2 ^ 32 → b < 2 ^ 32 → g (f a b) b ≡ a) → wordwise g (wordwise f x y) y ≡ x
+    wordwise-undone g h =
+        ap (λ (t : List ℕ). littles 4 (pointwise g t (numbers 4 4 y))) (numbers-littles 4 4 _ words-made)
+        ∙ ap (littles 4)
+        (pointwise-undone f g (numbers 4 4 x) (numbers 4 4 y) (words-of p .long ∙ sym (words-of q .long))
+        (λ i. h _ _ (words-of p .below i) (words-of q .below i)))
+        ∙ littles-numbers 4 4 x p
+
   pub ⊞-block : IsBlock (x ⊞ y)
   unfolding _⊞_
-  ⊞-block = block-of _ (sums-row 4 (numbers 4 4 x) (numbers 4 4 y) (words-of p .long) (words-of q .long) .long)
+  ⊞-block = wordwise-block add32 add32-makes
 
   pub ⊟-block : IsBlock (x ⊟ y)
   unfolding _⊟_
-  ⊟-block = block-of _ (differences-row 4 (numbers 4 4 x) (numbers 4 4 y) (words-of p .long) (words-of q .long) .long)
-
-  same-long : length (numbers 4 4 x) ≡ length (numbers 4 4 y)
-  same-long = words-of p .long ∙ sym (words-of q .long)
-
-  pub ⊟-⊞ : (x ⊞ y) ⊟ x ≡ y
-  unfolding _⊞_ _⊟_
-  ⊟-⊞ =
-      ap (λ (t : List ℕ). littles 4 (differences t (numbers 4 4 x)))
-      (numbers-littles 4 4 _ (sums-row 4 (numbers 4 4 x) (numbers 4 4 y) (words-of p .long) (words-of q .long)))
-      ∙ ap (littles 4) (less-sum (numbers 4 4 x) (numbers 4 4 y) same-long (words-of p .below) (words-of q .below))
-      ∙ littles-numbers 4 4 y q
-
-  pub ⊞-⊟ : y ⊞ (x ⊟ y) ≡ x
-  unfolding _⊞_ _⊟_
-  ⊞-⊟ =
-      ap (λ (t : List ℕ). littles 4 (sums (numbers 4 4 y) t))
-      (numbers-littles 4 4 _ (differences-row 4 (numbers 4 4 x) (numbers 4 4 y) (words-of p .long) (words-of q .long)))
-      ∙ ap (littles 4) (sum-less (numbers 4 4 x) (numbers 4 4 y) same-long (words-of p .below) (words-of q .below))
-      ∙ littles-numbers 4 4 x p
+  ⊟-block = wordwise-block sub32 sub32-makes
 
   pub xors-block : IsBlock (xors x y)
   xors-block = xors-row 8 16 p q
 
   pub xors-back : xors (xors x y) y ≡ x
   xors-back = xors-twice x y (p .long ∙ sym (q .long))
+
+⊞-comm : (x y : List ℕ) → x ⊞ y ≡ y ⊞ x
+unfolding _⊞_
+⊞-comm x y = ap (littles 4) (pointwise-comm add32 (λ a b. ap (λ (n : ℕ). n % 2 ^ 32) (add-comm a b)) (numbers 4 4 x) (numbers 4 4 y))
+
+module _ (x y : List ℕ) (p : IsBlock x) (q : IsBlock y) where
+  -- what was added first is what is taken off
+  pub ⊟-⊞ : (x ⊞ y) ⊟ x ≡ y
+  unfolding _⊞_ _⊟_
+  ⊟-⊞ = ap (λ (t : List ℕ). t ⊟ x) (⊞-comm x y) ∙ wordwise-undone y x q p add32 add32-makes sub32 (λ a b ha hb. omega arith)
+
+  pub ⊞-⊟ : y ⊞ (x ⊟ y) ≡ x
+  unfolding _⊞_ _⊟_
+  ⊞-⊟ = ⊞-comm y (x ⊟ y) ∙ wordwise-undone x y p q sub32 sub32-makes add32 (λ a b ha hb. omega arith)

@@ -3,11 +3,11 @@
 use mathlib.Core.Path.{_≡_, refl, sym, ap, ap₂, _∙_}
 use Prim.Native.Nat.{ℕ, zero, suc, _+_, _*_, _/_, _%_, _^_, _<_}
 use native.Mathlib.Omega.{arith}
-use native.Mathlib.Nat.{mod-lt, add-zero}
+use native.Mathlib.Nat.{mod-lt, add-zero, zero-mul, one-mul}
 use lib.Arith.{bin-ind, digits-div, digits-mod}
 use lib.Dec.{lit<}
 use lib.Pow.{pow-pos}
-use lib.Bits.{bitXor, differ, xor-step, xor-comm, xor-self, xor-zero-r, xor-lt, xor-shr, xor-mod, xor-shifted, xor-block}
+use lib.Bits.{differ, xor-step, xor-comm, xor-self, xor-zero-r, xor-lt, xor-shr, xor-mod, xor-shifted, xor-block}
 use Rattle.words.specs.Xor.{_⊕_}
 
 differ-lt : (x y : ℕ) → x < 2 → y < 2 → differ x y < 2
@@ -26,7 +26,7 @@ differ-assoc (suc zero) (suc zero) (suc (suc z)) hx hy hz = absurd (omega arith)
 differ-assoc (suc zero) (suc (suc y)) z hx hy hz = absurd (omega arith)
 differ-assoc (suc (suc x)) y z hx hy hz = absurd (omega arith)
 
-odd : (n : ℕ) → n % 2 < 2
+pub odd : (n : ℕ) → n % 2 < 2
 odd n = mod-lt n (lit< tt)
 
 pub ⊕-step : (a b : ℕ) → a ⊕ b ≡ (a / 2 ⊕ b / 2) * 2 + differ (a % 2) (b % 2)
@@ -99,6 +99,21 @@ pub bit : (P : ℕ → Type 0) (t : ℕ) → t < 2 → P 0 → P 1 → P t
 bit P zero h p q = p
 bit P (suc zero) h p q = q
 bit P (suc (suc t)) h p q = absurd (omega arith)
+
+-- a bit as a factor
+pub bit-lt : (m c t : ℕ) → c < m → t < 2 → t * c < m
+bit-lt m c t hc ht = bit (λ (t : ℕ). t * c < m) t ht (rw zero-mul (omega arith)) (rw one-mul hc)
+
+pub bit-times : (c p q : ℕ) → p < 2 → q < 2 → (p ⊕ q) * c ≡ p * c ⊕ q * c
+bit-times c p q hp hq =
+    bit (λ p. (p ⊕ q) * c ≡ p * c ⊕ q * c) p hp (simp (zero-mul, ⊕-zero-l))
+    (bit (λ q. (1 ⊕ q) * c ≡ 1 * c ⊕ q * c) q hq (simp (zero-mul, ⊕-zero-r)) (simp (⊕-self, zero-mul)))
+
+-- the bit at a place of a sum
+pub bit-sum : (a b k c : ℕ) → (a ⊕ b) / 2 ^ k % 2 * c ≡ a / 2 ^ k % 2 * c ⊕ b / 2 ^ k % 2 * c
+bit-sum a b k c =
+    ap (λ (t : ℕ). t * c) (ap (λ (s : ℕ). s % 2) (⊕-shr a b k) ∙ ⊕-mod (a / 2 ^ k) (b / 2 ^ k) 1)
+    ∙ bit-times c (a / 2 ^ k % 2) (b / 2 ^ k % 2) (odd (a / 2 ^ k)) (odd (b / 2 ^ k))
 
 pub ⊕-shl : (a b k : ℕ) → (a ⊕ b) * 2 ^ k ≡ a * 2 ^ k ⊕ b * 2 ^ k
 unfolding _⊕_

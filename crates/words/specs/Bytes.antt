@@ -1,9 +1,11 @@
--- Numbers as bytes, low byte first, and rows of numbers of one size. A byte is a number below 256. Document 01: a block is 16 bytes, and
+-- Numbers as bytes, low byte first, parts of lists, and rows of numbers of one size. A byte is a number below 256. Document 01: a block is 16 bytes, and
 -- byte 0 is its least significant one; key and IV words, cells and the words of ⊞32 are made of such bytes.
-use Prim.Native.Nat.{ℕ, zero, suc, _+_, _*_, _/_, _%_, _^_, _<_}
+use Prim.Native.Nat.{ℕ, zero, suc, _+_, _*_, _/_, _%_, _<_}
 use mathlib.Core.Path.{_≡_}
+use mathlib.Core.Bool.{Bool, true, false, _&&_}
 use mathlib.Core.List.{List, [], _∷_, _++_}
-use lib.ListN.{length, getD, take, drop}
+use lib.Dec.{eqb}
+use lib.ListN.{length, getD, take, drop, replicate}
 
 -- the k low bytes of n, low byte first
 unfoldable pub little : ℕ → ℕ → List ℕ
@@ -25,6 +27,22 @@ unfoldable pub numbers : (k n : ℕ) → List ℕ → List ℕ
 numbers k zero s = []
 numbers k (suc n) s = number (take k s) ∷ numbers k n (drop k s)
 
+-- k bytes from byte `at` on
+abbrev pub part : (at k : ℕ) → List ℕ → List ℕ
+part at k s = take k (drop at s)
+
+-- lists one behind the other
+abbrev pub joined : List (List ℕ) → List ℕ
+joined [] = []
+joined (x ∷ xs) = x ++ joined xs
+
+-- whether two lists are the same
+unfoldable pub same : List ℕ → List ℕ → Bool
+same [] [] = true
+same [] (y ∷ t) = false
+same (x ∷ s) [] = false
+same (x ∷ s) (y ∷ t) = eqb x y && same s t
+
 -- n numbers below m
 pub record Row (n m : ℕ) (s : List ℕ) : Type 0 where
   pub long : length s ≡ n
@@ -33,3 +51,7 @@ pub record Row (n m : ℕ) (s : List ℕ) : Type 0 where
 -- a block: 16 bytes
 abbrev pub IsBlock : List ℕ → Type 0
 IsBlock = Row 16 256
+
+-- a block of zeros
+abbrev pub zeros : List ℕ
+zeros = replicate 16 0

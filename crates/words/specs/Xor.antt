@@ -8,8 +8,11 @@ infixl 60 _⊕_
 unfoldable pub _⊕_ : ℕ → ℕ → ℕ
 a ⊕ b = bitXor a b
 
--- element by element, as far as both lists go
+-- two lists element by element, as far as both go
+abbrev pub pointwise : (ℕ → ℕ → ℕ) → List ℕ → List ℕ → List ℕ
+pointwise f [] t = []
+pointwise f (x ∷ s) [] = []
+pointwise f (x ∷ s) (y ∷ t) = f x y ∷ pointwise f s t
+
 unfoldable pub xors : List ℕ → List ℕ → List ℕ
-xors [] t = []
-xors (x ∷ s) [] = []
-xors (x ∷ s) (y ∷ t) = (x ⊕ y) ∷ xors s t
+xors s t = pointwise _⊕_ s t

@@ -1,11 +1,12 @@
-// Blocks of 16 bytes as four words of 32 bits, low byte first: read, written, added, subtracted and xored.
+// Blocks of 16 bytes as four words of 32 bits, low byte first: read, written, compared, added, subtracted and xored.
 ghost use mathlib.Core.Path.{_≡_};
 ghost use Prim.Native.Nat.{_+_, _<_, _≤_};
-ghost use lib.ListN.{length, take, drop};
+ghost use lib.ListN.{length};
 ghost use lib.Seq.{sets};
 ghost use Rattle.words.specs.Xor.{xors};
 ghost use Rattle.words.specs.Sums.{_⊞_, _⊟_};
-ghost use Rattle.words.specs.Bytes.{number, little};
+ghost use Rattle.words.specs.Bytes;
+ghost use Rattle.words.specs.Bytes.{number, little, part, zeros};
 ghost use Rattle.words.specs.Machine.{bytesOf};
 
 // A block: byte 0 is the low byte of `w0`, byte 15 the high byte of `w3`.
@@ -14,6 +15,17 @@ pub struct Block {
     pub w1: u32,
     pub w2: u32,
     pub w3: u32,
+}
+
+pub fn zero() -> Block
+    ensures { λ r. ⌜ bytesOf r ≡ zeros ⌝ }
+{
+    Block {
+        w0: 0,
+        w1: 0,
+        w2: 0,
+        w3: 0,
+    }
 }
 
 pub fn xor(x: Block, y: Block) -> Block
@@ -50,6 +62,13 @@ pub fn minus(x: Block, y: Block) -> Block
     }
 }
 
+// Whether two blocks are the same. Each of their words is looked at.
+pub fn same(x: Block, y: Block) -> bool
+    ensures { λ r. ⌜ r ≡ Bytes.same (bytesOf x) (bytesOf y) ⌝ }
+{
+    (x.w0 == y.w0) & (x.w1 == y.w1) & (x.w2 == y.w2) & (x.w3 == y.w3)
+}
+
 fn wide(x: u8) -> u32
     ensures { λ r. ⌜ (r ≡ x) × (r < 256) ⌝ }
 {
@@ -59,7 +78,7 @@ fn wide(x: u8) -> u32
 // Four bytes of a slice as a word.
 fn load_word(p: &[u8], at: usize) -> u32
     requires { ⌜ at + 4 ≤ length (now p) ⌝ }
-    ensures { λ r. ⌜ r ≡ number (take 4 (drop at (now (p .entry)))) ⌝ }
+    ensures { λ r. ⌜ r ≡ number (part at 4 (now (p .entry))) ⌝ }
 {
     wide(p[at]) + wide(p[at + 1]) * 0x100 + wide(p[at + 2]) * 0x10000 + wide(p[at + 3]) * 0x1000000
 }
@@ -67,7 +86,7 @@ fn load_word(p: &[u8], at: usize) -> u32
 // The block at a place of a slice.
 pub fn load(p: &[u8], at: usize) -> Block
     requires { ⌜ at + 16 ≤ length (now p) ⌝ }
-    ensures { λ r. ⌜ bytesOf r ≡ take 16 (drop at (now (p .entry))) ⌝ }
+    ensures { λ r. ⌜ bytesOf r ≡ part at 16 (now (p .entry)) ⌝ }
 {
     Block {
         w0: load_word(p, at),

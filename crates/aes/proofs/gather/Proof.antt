@@ -6,14 +6,14 @@ use denote.Ref.{now}
 use lib.ListN.{getD}
 use Rattle.words.specs.Bytes.{little}
 use Rattle.words.proofs.Blocks.{four}
-use Rattle.aes.specs.Round.{pick}
+use Rattle.aes.specs.Round.{gathered}
 use Rattle.aes.proofs.Columns.{joined}
 use borrow.Author.Needs.{needs}
 use Rattle.aes.proofs.gather.Statement.{statement}
 use Rattle.aes.proofs.gather.Tie as tie
 
 returns : tie.Need-returns
-unfolding little pick
+unfolding little gathered
 returns c =
     let a = c .before .before .before .before .args in
     let e0 = c .before .before .before .entry .ensures in

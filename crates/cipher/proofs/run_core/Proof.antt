@@ -1,5 +1,5 @@
 -- `cipher::run_core` meets its contract: after i turns i steps are made, and their blocks stand at the front of the output.
-use Prim.Native.Nat.{ℕ, _≤_, _<_, _*_, _-_}
+use Prim.Native.Nat.{ℕ, _-_}
 use mathlib.Core.Path.{_≡_, subst}
 use native.Mathlib.Omega.{arith}
 use borrow.Author.Needs.{needs}

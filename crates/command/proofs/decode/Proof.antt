@@ -7,10 +7,10 @@ use native.Mathlib.Omega.{arith}
 use borrow.Author.Needs.{needs}
 use lib.ListN.{length, getD, drop}
 use denote.Ref.{now}
+use Rattle.words.proofs.Writing.{Written, written-none, written-more, written-all}
 use Rattle.command.specs.Hex.{digit, all-digits, bytes-of}
 use Rattle.command.proofs.Digits.{Digits, digits-there, two-digits}
 use Rattle.command.proofs.Reading.{formed-digits, formed-even}
-use Rattle.command.proofs.Writing.{Written, written-none, written-more, written-all}
 use Rattle.command.proofs.decode.Statement.{statement}
 use Rattle.command.proofs.decode.Tie as tie
 

@@ -6,9 +6,9 @@ use native.Mathlib.Omega.{arith}
 use native.Mathlib.Numerals.{add-one}
 use lib.ListN.{length, set, length-set}
 use denote.Ref.{now}
+use Rattle.words.proofs.Writing.{Written, written-none, written-more, written-all}
 use Rattle.command.specs.Hex.{glyph, hex-of}
 use Rattle.command.proofs.Digits.{one-byte}
-use Rattle.command.proofs.Writing.{Written, written-none, written-more, written-all}
 use Rattle.command.proofs.encode.Statement.{statement}
 use Rattle.command.proofs.encode.Tie as tie
 

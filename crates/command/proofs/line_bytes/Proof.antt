@@ -7,10 +7,10 @@ use borrow.Author.Needs.{needs}
 use lib.ListN.{length, take}
 use lib.Seq.{sets, length-sets, length-take-le}
 use denote.Ref.{now}
+use Rattle.words.proofs.Writing.{front}
 use Rattle.command.specs.Hex.{bytes-of}
-use Rattle.command.specs.Machine.{part}
+use Rattle.command.specs.Machine.{between}
 use Rattle.command.proofs.Reading.{formed-short, formed-bytes}
-use Rattle.command.proofs.Writing.{front}
 use Rattle.command.proofs.line_bytes.Statement.{statement}
 use Rattle.command.proofs.line_bytes.Tie as tie
 
@@ -24,7 +24,7 @@ decode-requires c κs =
 returns : tie.Need-returns
 returns c =
     let s = c .before .before .before .before in
-    let l = part (s .args .from) (s .args .to) (now (s .args .input)) in
+    let l = between (s .args .from) (s .args .to) (now (s .args .input)) in
     let n : length (now (s .args .out)) ≡ 4096 = search needs in
     let h : length (bytes-of l) ≤ 4096 = formed-bytes l (s .pre .2) in
     let o : c .decode .last .1 .0 ≡ sets (now (s .args .out)) 0 (bytes-of l) = c .decode .ensures .0 in

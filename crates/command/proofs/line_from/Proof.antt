@@ -7,7 +7,7 @@ use borrow.Author.Needs.{needs}
 use lib.ListN.{length, take, drop}
 use denote.Ref.{now}
 use Rattle.command.specs.Lines.{Line.ended, first-line}
-use Rattle.command.specs.Machine.{part, lineOf}
+use Rattle.command.specs.Machine.{between, lineOf}
 use Rattle.command.proofs.Taken.{left-from, moved, inside}
 use Rattle.command.proofs.line_from.Statement.{statement}
 use Rattle.command.proofs.line_from.Tie as tie
@@ -19,7 +19,7 @@ returns c =
     let f = c .before .before in
     ap (lineOf (take (length s - a .at) (drop (a .at) s)) 0) (sym (c .enum-told .given .1)) ∙ f .first .ensures ∙ ap first-line (left-from s (a .at))
 
-found : (c : tie.After-known-told) → let a = c .before .before .before .before .before .before .args in ended (part (a .at) (a .at + c .before .n .given .0 .0) (now (a .input))) (drop (a .at + c .before .n .given .0 .0 + 1) (now (a .input))) ≡ first-line (drop (a .at) (now (a .input)))
+found : (c : tie.After-known-told) → let a = c .before .before .before .before .before .before .args in ended (between (a .at) (a .at + c .before .n .given .0 .0) (now (a .input))) (drop (a .at + c .before .n .given .0 .0 + 1) (now (a .input))) ≡ first-line (drop (a .at) (now (a .input)))
 found c =
     let a = c .before .before .before .before .before .before .args in
     let s = now (a .input) in

@@ -5,8 +5,8 @@ use mathlib.Core.Path.{refl, subst}
 use native.Mathlib.Omega.{arith}
 use lib.ListN.{length, getD}
 use denote.Ref.{now}
+use Rattle.words.proofs.Writing.{Written, written-none, written-more, written-all}
 use Rattle.command.proofs.Digits.{next}
-use Rattle.command.proofs.Writing.{Written, written-none, written-more, written-all}
 use Rattle.command.proofs.put.Statement.{statement}
 use Rattle.command.proofs.put.Tie as tie
 

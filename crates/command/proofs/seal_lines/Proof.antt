@@ -10,7 +10,7 @@ use denote.Ref.{now}
 use Rattle.command.specs.Hex.{bytes-of}
 use Rattle.command.specs.Lines.{lines-in}
 use Rattle.command.specs.Output.{answer-for, answer-to}
-use Rattle.command.specs.Machine.{part}
+use Rattle.command.specs.Machine.{between}
 use Rattle.command.proofs.Reading.{formed-bytes}
 use Rattle.command.proofs.Whole.{Whole, read-as}
 use Rattle.command.proofs.Sealing.{refused-is, sealed-is, same-answer}
@@ -22,16 +22,16 @@ input s = now (s .args .input)
 
 -- the four lines
 abbrev line1 : tie.Start → List ℕ
-line1 s = part 0 (s .args .p .key) (input s)
+line1 s = between 0 (s .args .p .key) (input s)
 
 abbrev line2 : tie.Start → List ℕ
-line2 s = part (s .args .p .key + 1) (s .args .p .iv) (input s)
+line2 s = between (s .args .p .key + 1) (s .args .p .iv) (input s)
 
 abbrev line3 : tie.Start → List ℕ
-line3 s = part (s .args .p .iv + 1) (s .args .p .ad) (input s)
+line3 s = between (s .args .p .iv + 1) (s .args .p .ad) (input s)
 
 abbrev line4 : tie.Start → List ℕ
-line4 s = part (s .args .p .ad + 1) (s .args .p .text) (input s)
+line4 s = between (s .args .p .ad + 1) (s .args .p .text) (input s)
 
 whole : (s : tie.Start) → Whole (input s) (line1 s) (line2 s) (line3 s) (line4 s)
 whole s = read-as (input s) (line1 s) (line2 s) (line3 s) (line4 s) (s .pre .0)

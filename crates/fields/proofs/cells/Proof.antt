@@ -5,8 +5,7 @@ use native.Mathlib.Omega.{arith}
 use borrow.Author.Needs.{needs}
 use lib.ListN.{length, drop, length-set}
 use lib.Seq.{sets}
-use Rattle.words.specs.Bytes.{numbers}
-use Rattle.fields.specs.Fields.{part}
+use Rattle.words.specs.Bytes.{numbers, part}
 use Rattle.fields.proofs.Reading.{cells-none, cells-more, cells-all}
 use Rattle.fields.proofs.cells.Statement.{statement}
 use Rattle.fields.proofs.cells.Tie as tie

@@ -5,8 +5,7 @@ use native.Mathlib.Omega.{arith}
 use native.Mathlib.Nat.{lt-of-le-of-lt, le-add-right}
 use borrow.Author.Needs.{needs}
 use lib.Dec.{lit<}
-use Rattle.words.specs.Bytes.{number}
-use Rattle.fields.specs.Fields.{part}
+use Rattle.words.specs.Bytes.{number, part}
 use Rattle.fields.proofs.Reading.{get-none, get-more, more-lt, few-lt}
 use Rattle.fields.proofs.get.Statement.{statement}
 use Rattle.fields.proofs.get.Tie as tie

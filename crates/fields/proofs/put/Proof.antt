@@ -6,7 +6,7 @@ use borrow.Author.Needs.{needs}
 use lib.ListN.{length, length-set}
 use lib.Seq.{sets}
 use Rattle.words.specs.Bytes.{little}
-use Rattle.fields.proofs.Writing.{put-more, put-all}
+use Rattle.words.proofs.Writing.{put-more, put-all}
 use Rattle.fields.proofs.put.Statement.{statement}
 use Rattle.fields.proofs.put.Tie as tie
 

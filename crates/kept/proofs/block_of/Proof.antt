@@ -12,9 +12,9 @@ use Rattle.words.specs.Bytes.{little}
 use Rattle.words.specs.Machine.{bytesOf}
 use Rattle.words.proofs.Bytes.{little-long}
 use Rattle.words.proofs.Blocks.{bytesOf-block}
+use Rattle.words.proofs.Fronts.{Front, front-none, front-put, front-skip}
 use Rattle.fields.specs.Fields.{check}
 use Rattle.fields.proofs.Reading.{check-front}
-use Rattle.fields.proofs.Fronts.{Front, front-none, front-put, front-skip}
 use Rattle.cipher.specs.Machine.{registersOf}
 use Rattle.layout.specs.Block.{registers-bytes, body, block-of}
 use Rattle.kept.specs.Machine.{keptOf}

@@ -9,9 +9,9 @@ use Prim.Native.Nat.{ℕ, _%_}
 use lib.Dec.{eqb, leb}
 use lib.ListN.{length, drop, getD}
 use Rattle.scope.specs.Limits.{most-data, most-text}
-use Rattle.words.specs.Bytes.{number}
-use Rattle.fields.specs.Fields.{part, blank}
-use Rattle.fields.proofs.Parts.{part-behind}
+use Rattle.words.specs.Bytes.{number, part}
+use Rattle.words.proofs.Parts.{part-behind}
+use Rattle.fields.specs.Fields.{all-zero}
 use Rattle.layout.specs.Block.{read}
 use Rattle.layout.specs.Rules.{phase-length, rules}
 use Rattle.layout.proofs.Obeying.{broken, tested}
@@ -19,9 +19,9 @@ use Rattle.layout.proofs.well_laid.Statement.{statement}
 use Rattle.layout.proofs.well_laid.Tie as tie
 
 -- the bytes past those not yet hashed
-behind : (c : tie.After-blank)
-    → let b = now (c .before .before .before .before .before .before .before .args .block) in c .blank .result
-    ≡ blank (drop (phase-length (getD b 0 0) (number (part 4 4 b)) (number (part 8 4 b)) % 16) (part 144 16 b))
+behind : (c : tie.After-all-zero)
+    → let b = now (c .before .before .before .before .before .before .before .args .block) in c .all-zero .result
+    ≡ all-zero (drop (phase-length (getD b 0 0) (number (part 4 4 b)) (number (part 8 4 b)) % 16) (part 144 16 b))
 behind c =
     let n = c .before in
     let t = n .before in
@@ -29,7 +29,7 @@ behind c =
     let b = now (d .before .before .before .before .args .block) in
     let e : n .pending-count .result ≡ phase-length (getD b 0 0) (number (part 4 4 b)) (number (part 8 4 b)) % 16 =
     rw (d .get .ensures .0, t .get2 .ensures .0) at (n .pending-count .ensures .0) in
-    c .blank .ensures ∙ rw (← e, part-behind b 144 16 (n .pending-count .result) (omega arith))
+    c .all-zero .ensures ∙ rw (← e, part-behind b 144 16 (n .pending-count .result) (omega arith))
 
 returns : tie.Need-returns
 unfolding rules
@@ -58,9 +58,9 @@ returns-2 c =
     (ap (λ (n : ℕ). leb n most-text) (t .get2 .ensures .0))
     (ap (λ (n : ℕ). not (eqb (getD b 0 0) 0) || eqb n 0) (t .get2 .ensures .0))
     (behind z1)
-    (z2 .blank2 .ensures)
-    (z3 .blank3 .ensures)
-    (z4 .blank4 .ensures)
+    (z2 .all-zero2 .ensures)
+    (z3 .all-zero3 .ensures)
+    (z4 .all-zero4 .ensures)
     (ap₂ eqb (w .word .ensures) (c .check .ensures))
 
 pub well-laid-spec : {M : Type 1} → statement M

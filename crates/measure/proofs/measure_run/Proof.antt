@@ -8,13 +8,13 @@ use denote.Ref.{now}
 use Rattle.cipher.specs.Registers.{Registers}
 use Rattle.cipher.specs.Run.{run-part}
 use Rattle.cipher.specs.Machine.{registersOf}
-use Rattle.measure.specs.Run.{part}
+use Rattle.measure.specs.Run.{measured}
 use borrow.Author.Needs.{needs}
 use Rattle.measure.proofs.measure_run.Statement.{statement}
 use Rattle.measure.proofs.measure_run.Tie as tie
 
 returns : tie.Need-returns
-unfolding part
+unfolding measured
 returns c =
     let r = c .before .before in
     let e = r .run-core .ensures in

@@ -1,13 +1,17 @@
 -- `page::seal` meets its contract: a refusal by the lengths, and else a session with one piece of data and one of text.
-use Prim.Native.Nat.{ℕ, _≤_}
-use mathlib.Core.Path.{sym, ap, _∙_}
+use Prim.Native.Nat.{_≤_}
+use mathlib.Core.Path.{_≡_, refl, sym, ap, _∙_}
+use mathlib.Core.List.{[]}
 use native.Mathlib.Omega.{arith}
 use lib.ListN.{length}
 use denote.Ref.{now}
 use Rattle.scope.specs.Limits.{most-data, most-text}
 use Rattle.session.specs.Sealing.{Sealing}
-use Rattle.session.specs.Calls.{Given, data-call, text-call, finish-call}
-use Rattle.page.proofs.WholeCalls.{page-text, page-finish}
+use Rattle.session.specs.Machine.{sealingOf}
+use Rattle.session.specs.Calls.{tag-of}
+use Rattle.page.proofs.Stages.{Stage.taking-data, Stage.taking-text, phase-at, session-at}
+use Rattle.page.proofs.Tags.{tag-at}
+use Rattle.page.proofs.AtOnce.{begun-session, lent, told-session, closed-session, whole-session, whole-out}
 use Rattle.page.proofs.Answers.{seal-accepted, seal-writes, seal-gives}
 use Rattle.page.proofs.Refusing.{over-data, over-text, not-over, seal-key, seal-iv, seal-over, seal-short, seal-no-tag, seal-keeps}
 use borrow.Author.Needs.{needs}
@@ -44,28 +48,84 @@ returns-5 c =
     let e = seal-short (now (a .key)) (now (a .iv)) (now (a .ad)) (now (a .text)) (now (a .out)) (c .before .before .before .before .before .if1 .left) (c .before .before .before .before .if2 .left) (not-over (now (a .ad)) (now (a .text)) (omega arith) (omega arith)) (omega arith) in
     (c .refused5 .ensures .0 ∙ sym e, (c .refused5 .ensures .1 ∙ sym (seal-no-tag (now (a .key)) (now (a .iv)) (now (a .ad)) (now (a .text)) (now (a .out)) 3 e), sym (seal-keeps (now (a .key)) (now (a .iv)) (now (a .ad)) (now (a .text)) (now (a .out)) 3 e)))
 
+-- ---- once the lengths are in order
+
+key-long : (c : tie.Else5) → length (now (c .before .before .before .before .before .before .before .before .before .before .args .key)) ≡ 32
+key-long c = c .before .before .before .before .if1 .left
+
+iv-long : (c : tie.Else5) → length (now (c .before .before .before .before .before .before .before .before .before .before .args .iv)) ≡ 16
+iv-long c = c .before .before .before .if2 .left
+
+ad-fits : (c : tie.Else5) → length (now (c .before .before .before .before .before .before .before .before .before .before .args .ad)) ≤ most-data
+ad-fits c = omega (arith, c .before .before .if3 .left)
+
+text-fits : (c : tie.Else5) → length (now (c .before .before .before .before .before .before .before .before .before .before .args .text)) ≤ most-text
+text-fits c = omega (arith, c .before .if4 .left)
+
+room : (c : tie.Else5) → length (now (c .before .before .before .before .before .before .before .before .before .before .args .text)) ≤ length (now (c .before .before .before .before .before .before .before .before .before .before .args .out))
+room c = omega (arith, c .if5 .left)
+
+-- ---- the session at each stage
+
+begun : (c : tie.After-begin) → let a = c .before .before .before .before .before .before .before .before .before .before .before .args in sealingOf (c .begin .result .session) ≡ session-at (now (a .key)) (now (a .iv)) (taking-data [])
+begun c = let o = c .before in begun-session (now (o .before .before .before .before .before .before .before .before .before .before .args .key)) (now (o .before .before .before .before .before .before .before .before .before .before .args .iv)) _ (key-long o) (iv-long o) (c .begin .ensures .session)
+
+told : (c : tie.After-data-with) → let a = c .before .before .before .before .before .before .before .before .before .before .before .before .before .before .before .before .before .args in sealingOf (c .data-with .result) ≡ session-at (now (a .key)) (now (a .iv)) (taking-data (now (a .ad)))
+told c = let a = c .before .before .before .before .before .before .before .before .before .before .before .before .before .before .before .before .before .args in told-session (now (a .key)) (now (a .iv)) (now (a .ad)) _ _ (begun (c .before .before .before .before .before .before)) (c .data-with .ensures)
+
+whole : (c : tie.After-text-with) → let a = c .before .before .before .before .before .before .before .before .before .before .before .before .before .before .before .before .before .before .before .before .args in sealingOf (c .text-with .result) ≡ session-at (now (a .key)) (now (a .iv)) (taking-text (now (a .ad)) (now (a .text)))
+whole c =
+    let a = c .before .before .before .before .before .before .before .before .before .before .before .before .before .before .before .before .before .before .before .before .args in
+    whole-session (now (a .key)) (now (a .iv)) (now (a .ad)) _ (closed-session (now (a .key)) (now (a .iv)) (now (a .ad)) _ _ (told (c .before .before .before)) refl) (now (a .text)) (now (a .out)) (now (a .out)) _ (c .text-with .ensures .0)
+
+-- one table serves them
+data-with-requires : tie.Need-data-with-requires
+unfolding session-at phase-at
+data-with-requires c κs =
+    let b = c .before .before .before .before .before in
+    let e = begun b in
+    let n : b .begin .result .session .ad ≡ 0 = ap (λ (s : Sealing). s .ad) e in (
+      ap (λ (s : Sealing). s .phase) e,
+      omega (arith, ad-fits (b .before)),
+      c .before .multiples .ensures,
+    )
+
+text-with-requires : tie.Need-text-with-requires
+unfolding session-at
+text-with-requires c κs =
+    let d = c .before .before in
+    let b = d .before .before .before .before .before .before in
+    let a = b .before .before .before .before .before .before .before .before .before .before .before .args in
+    let e = told d in
+    let n : d .data-with .result .text ≡ 0 = ap (λ (s : Sealing). s .text) e in
+    let t = text-fits (b .before) in (
+      record { ordered = omega arith; read = omega arith; room = room (b .before); counts = omega arith },
+      lent (now (a .key)) (now (a .iv)) (taking-data []) (taking-data (now (a .ad))) (b .begin .result .session) (d .data-with .result) _ (begun b) e (d .before .before .multiples .ensures),
+    )
+
+tag-with-requires : tie.Need-tag-with-requires
+tag-with-requires c κs =
+    let w = c .before .before .before in
+    let b = w .before .before .before .before .before .before .before .before .before in
+    let a = b .before .before .before .before .before .before .before .before .before .before .before .args in
+    lent (now (a .key)) (now (a .iv)) (taking-data []) (taking-text (now (a .ad)) (now (a .text))) (b .begin .result .session) (w .text-with .result) _ (begun b) (whole w) (w .before .before .before .before .before .multiples .ensures)
+
 returns-6 : tie.Need-returns-6
 returns-6 c =
-    let a = c .before .before .before .before .before .before .before .before .before .before .before .before .before .before .before .before .before .before .before .before .before .args in
+    let w = c .before .before .before .before .before in
+    let o = w .before .before .before .before .before .before .before .before .before .before in
+    let a = o .before .before .before .before .before .before .before .before .before .before .args in
     let key = now (a .key) in
     let iv = now (a .iv) in
     let d = now (a .ad) in
     let t = now (a .text) in
-    let out = now (a .out) in
-    let k = c .before .before .before .before .before .before .before .before .before .before .before .before .before .before .before .if1 .left in
-    let v = c .before .before .before .before .before .before .before .before .before .before .before .before .before .before .if2 .left in
-    let hd : length (now (a .ad)) ≤ most-data = omega (arith, c .before .before .before .before .before .before .before .before .before .before .before .before .before .if3 .left) in
-    let ht : length (now (a .text)) ≤ most-text = omega (arith, c .before .before .before .before .before .before .before .before .before .before .before .before .if4 .left) in
-    let room : length (now (a .text)) ≤ length (now (a .out)) = omega (arith, c .before .before .before .before .before .before .before .before .before .before .before .if5 .left) in
-    let told = c .before .before .before .before .before .before .before .before .«data» .ensures .session ∙ ap (λ (s : Sealing). data-call s (now (a .ad)) .session) (c .before .before .before .before .before .before .before .before .before .before .begin .ensures .session) in
-    let text = c .before .before .before .before .before .text .ensures in
-    let whole = text .0 .session ∙ ap (λ (s : Sealing). text-call s (now (a .text)) (now (a .out)) .session) told in (
-      sym (seal-accepted key iv d k v hd t out ht room),
+    let out = now (a .out) in (
+      sym (seal-accepted key iv d (key-long o) (iv-long o) (ad-fits o) t out (text-fits o) (room o)),
       (
-        c .before .finish .ensures .tag ∙ ap (λ (s : Sealing). finish-call s .out) whole
-            ∙ ap (λ (g : Given). g .out) (page-finish key iv d t out k v hd ht room) ∙ sym (seal-gives key iv d k v hd t out ht room),
-        text .1 ∙ ap (λ (s : Sealing). text-call s (now (a .text)) (now (a .out)) .out) told
-            ∙ ap (λ (g : Given). g .out) (page-text key iv d t out k v hd ht room) ∙ sym (seal-writes key iv d k v hd t out ht room),
+        c .to-bytes .ensures ∙ c .before .tag-with .ensures ∙ ap tag-of (whole w) ∙ tag-at (now (a .key)) (now (a .iv)) (taking-text (now (a .ad)) (now (a .text)))
+            ∙ sym (seal-gives key iv d (key-long o) (iv-long o) (ad-fits o) t out (text-fits o) (room o)),
+        whole-out (now (a .key)) (now (a .iv)) (now (a .ad)) _ (closed-session (now (a .key)) (now (a .iv)) (now (a .ad)) _ _ (told (w .before .before .before)) refl) (now (a .text)) (now (a .out)) _ (w .text-with .ensures .1)
+            ∙ sym (seal-writes key iv d (key-long o) (iv-long o) (ad-fits o) t out (text-fits o) (room o)),
       ),
     )
 
@@ -85,7 +145,9 @@ seal-spec =
     returns-5
     (λ c κs. search needs)
     (λ c κs. search needs)
-    (λ c κs. search needs)
+    data-with-requires
+    text-with-requires
+    tag-with-requires
     (λ c κs. search needs)
     (λ c. search needs)
     returns-6)

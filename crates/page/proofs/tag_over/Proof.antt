@@ -1,31 +1,29 @@
--- `page::tag_over` meets its contract: finish, of the session with the ciphertext hashed.
-use Prim.Native.Nat.{ℕ}
+-- `page::tag_over` meets its contract: the tag of the session with the ciphertext hashed.
 use mathlib.Core.Path.{ap, _∙_}
-use mathlib.Core.List.{List}
 use lib.ListN.{length}
 use denote.Ref.{now}
-use Rattle.digest.specs.Digest.{Sum, fresh, absorb}
-use Rattle.session.specs.Sealing.{Sealing}
-use Rattle.session.specs.Calls.{finish-number, finish-call}
+use Rattle.ghash.proofs.Elements.{Halves}
+use Rattle.digest.specs.Digest.{Sum}
+use Rattle.session.specs.Calls.{tag-of}
+use Rattle.session.proofs.Made.{by-number}
 use Rattle.session.specs.Machine.{sealingOf}
-use Rattle.page.specs.Inner.{tag-over}
+use Rattle.page.specs.Inner.{in-text, tag-over}
 use borrow.Author.Needs.{needs}
 use Rattle.page.proofs.tag_over.Statement.{statement}
 use Rattle.page.proofs.tag_over.Tie as tie
 
--- a session in its text, at a length and hash
-abbrev counted : Sealing → ℕ → Sum → Sealing
-counted s n y =
-    record { phase = 1; ad = s .ad; text = n; registers = s .registers; h = s .h; pad = s .pad; current = s .current; sum = y }
+halves : (c : tie.Start) → Halves (c .args .s .h)
+halves c = record { in-hi = search needs; in-lo = search needs }
+
+absorb-with-requires : tie.Need-absorb-with-requires
+absorb-with-requires c κs = let start = c .before .before .before in by-number (start .args .s .h) _ (halves start) (start .pre)
 
 returns : tie.Need-returns
-unfolding tag-over finish-call finish-number
+unfolding tag-over
 returns c =
-    let a = c .before .before .before .before .before .before .before .args in
+    let a = c .before .before .before .before .before .args in
     let s = sealingOf (a .s) in
-    let y = c .before .before .before .settle .ensures in
-    let e = c .before .before .absorb .ensures ∙ ap (λ (x : List ℕ). absorb (s .h) (fresh x) 0 (now (a .cipher))) y in
-    c .before .finish .ensures .tag ∙ ap (λ (m : Sum). finish-call (counted s (length (now (a .cipher))) m) .out) e
+    c .tag-with .ensures ∙ ap (λ (m : Sum). tag-of (in-text s (length (now (a .cipher))) m)) (c .before .absorb-with .ensures)
 
 pub tag-over-spec : {M : Type 1} → statement M
-tag-over-spec = tie.close (tie.spec (λ c κs. search needs) (λ c κs. search needs) (λ c κs. search needs) returns)
+tag-over-spec = tie.close (tie.spec absorb-with-requires (λ c κs. search needs) returns)

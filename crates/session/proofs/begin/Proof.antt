@@ -2,9 +2,8 @@
 use mathlib.Core.Path.{_≡_, sym, ap, _∙_}
 use denote.Ref.{now}
 use Rattle.start.specs.Start.{start-number}
-use Rattle.session.specs.Begun.{begun-from, closed-with}
-use Rattle.session.specs.Calls.{begin-call}
-use Rattle.session.proofs.Beginning.{refused-state, refused-session, granted-state, granted-session}
+use Rattle.session.specs.Calls.{begun-from, begin-call}
+use Rattle.session.proofs.Beginning.{refused-session, granted-state, granted-session}
 use borrow.Author.Needs.{needs}
 use Rattle.session.proofs.begin.Statement.{statement}
 use Rattle.session.proofs.begin.Tie as tie
@@ -17,7 +16,7 @@ returns c =
     let e : ¬ (start-number (now (a .key)) (now (a .iv)) ≡ 0) = λ z. c .before .if1 .taken (t .number ∙ z) in
     record {
       number = t .number;
-      session = c .nobody .ensures ∙ ap closed-with (t .state ∙ refused-state _ _ _ e) ∙ sym (refused-session (now (a .key)) (now (a .iv)) e);
+      session = c .nobody .ensures ∙ sym (refused-session (now (a .key)) (now (a .iv)) e);
     }
 
 returns-2 : tie.Need-returns-2

@@ -21,13 +21,13 @@ use Rattle.session.proofs.block.Tie as tie
 halves : (c : tie.Start) → Halves (c .args .h)
 halves c = record { in-hi = search needs; in-lo = search needs }
 
-absorb-requires : tie.Need-absorb-requires
-absorb-requires c κs = let start = c .before .before .before .before .before .before .before .before .before .before .before .before .before .before in by-number (start .args .h) _ (halves start) (start .pre .2 .multiples)
+absorb-element-requires : tie.Need-absorb-element-requires
+absorb-element-requires c κs = let start = c .before .before .before .before .before .before .before .before .before .before .before .before .before .before .before in by-number (start .args .h) _ (halves start) (start .pre .2 .multiples)
 
 returns : tie.Need-returns
 unfolding move made
 returns c =
-    let st = c .before .before .before in
+    let st = c .before .before .before .before in
     let x = st .before .before in
     let l = x .before in
     let f = l .before .before .before in
@@ -39,7 +39,7 @@ returns c =
       λ i. record {
         registers = f .forward .ensures .state i;
         current = f .forward .ensures .z i;
-        sum = fresh ((c .absorb .ensures ∙ ap (eat (bytesOfElement (a .h)) (bytesOfElement (a .l .held .acc))) bytes) i);
+        sum = fresh ((c .absorb-element .ensures ∙ ap (eat (bytesOfElement (a .h)) (bytesOfElement (a .l .held .acc))) (c .before .from-block .ensures ∙ bytes)) i);
       },
       st .store .ensures ∙ ap (sets (now (a .out)) (a .at)) bytes,
     )
@@ -52,6 +52,7 @@ block-spec =
     (λ c κs. search needs)
     (λ c κs. search needs)
     (λ c κs. search needs)
-    absorb-requires
+    (λ c κs. search needs)
+    absorb-element-requires
     (λ c. search needs)
     returns)

@@ -1,14 +1,10 @@
 -- `session::data` meets its contract, by the phase and the limit.
-use Prim.Native.Nat.{_+_}
 use mathlib.Core.Path.{sym, _∙_}
 use native.Mathlib.Omega.{arith}
-use lib.ListN.{length}
 use denote.Ref.{now}
-use Rattle.words.specs.Machine.{bytesOf}
-use Rattle.ghash.specs.Machine.{bytesOfElement}
-use Rattle.cipher.specs.Machine.{registersOf}
 use Rattle.session.specs.Machine.{sealingOf}
-use Rattle.session.specs.Calls.{data-call, data-taken}
+use Rattle.session.specs.Calls.{data-call}
+use Rattle.session.proofs.Pieces.{told-taken}
 use Rattle.session.proofs.Numbers.{data-late, data-over, data-fits, data-refused, data-accepted}
 use borrow.Author.Needs.{needs}
 use Rattle.session.proofs.data.Statement.{statement}
@@ -39,25 +35,16 @@ returns-3 c =
     record { number = sym e; session = sym (data-refused s (now (a .piece)) 2 e) }
 
 returns-4 : tie.Need-returns-4
-unfolding data-call data-taken
+unfolding data-call
 returns-4 c =
-    let a = c .before .before .before .before .before .before .before .before .args in
-    let p = c .before .before .before .before .before .if1 .left in
-    let e = data-fits (sealingOf (a .s)) (now (a .piece)) p (omega arith) in
+    let a = c .before .before .before .before .before .before .before .before .before .args in
+    let s = sealingOf (a .s) in
+    let p = c .before .before .before .before .before .before .if1 .left in
+    let e = data-fits s (now (a .piece)) p (omega arith) in
     record {
       number = sym e;
-      session = (λ i. record {
-        phase = p i;
-        ad = a .s .ad + length (now (a .piece));
-        text = a .s .text;
-        registers = registersOf (a .s .state);
-        h = bytesOfElement (a .s .h);
-        pad = bytesOf (a .s .pad);
-        current = bytesOf (a .s .current);
-        sum = c .absorb .ensures i;
-      })
-          ∙ sym (data-accepted (sealingOf (a .s)) (now (a .piece)) e);
+      session = c .told .ensures ∙ told-taken s (now (a .piece)) _ p (c .before .absorb .ensures) ∙ sym (data-accepted s (now (a .piece)) e);
     }
 
 pub data-spec : {M : Type 1} → statement M
-data-spec = tie.close (tie.spec returns returns-2 returns-3 (λ c κs. search needs) (λ c. search needs) returns-4)
+data-spec = tie.close (tie.spec returns returns-2 returns-3 (λ c κs. search needs) (λ c κs. search needs) returns-4)

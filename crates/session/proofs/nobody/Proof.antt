@@ -1,6 +1,5 @@
 -- `session::nobody` meets its contract.
 use mathlib.Core.Path.{ap, _∙_}
-use Rattle.cipher.specs.Machine.{registersOf}
 use Rattle.digest.specs.Digest.{fresh}
 use borrow.Author.Needs.{needs}
 use Rattle.session.proofs.nobody.Statement.{statement}
@@ -8,13 +7,13 @@ use Rattle.session.proofs.nobody.Tie as tie
 
 returns : tie.Need-returns
 returns c =
-    let z = c .before .before .zero-block .ensures in
+    let z = c .before .before .zero .ensures in
     let n = c .before .zero-element .ensures in
     λ i. record {
       phase = 2;
       ad = 0;
       text = 0;
-      registers = registersOf (c .before .before .before .args .blank);
+      registers = c .before .before .before .blank-state .ensures i;
       h = n i;
       pad = z i;
       current = z i;
@@ -22,4 +21,4 @@ returns c =
     }
 
 pub nobody-spec : {M : Type 1} → statement M
-nobody-spec = tie.close (tie.spec (λ c κs. search needs) (λ c κs. search needs) (λ c κs. search needs) returns)
+nobody-spec = tie.close (tie.spec (λ c κs. search needs) (λ c κs. search needs) (λ c κs. search needs) (λ c κs. search needs) returns)

@@ -2,16 +2,15 @@
 use mathlib.Core.Path.{_≡_, ap, _∙_}
 use Rattle.words.specs.Machine.{bytesOf}
 use Rattle.cipher.specs.Step.{z}
-use Rattle.cipher.specs.Run.{forward, move, made}
+use Rattle.cipher.specs.Run.{forward, move, made, moves}
 use Rattle.cipher.specs.Machine.{registersOf}
 use Rattle.digest.specs.Digest.{fresh}
-use Rattle.session.specs.Begun.{begun-from}
 use borrow.Author.Needs.{needs}
 use Rattle.session.proofs.opened.Statement.{statement}
 use Rattle.session.proofs.opened.Tie as tie
 
 returns : tie.Need-returns
-unfolding begun-from made
+unfolding made moves
 returns c =
     let w = c .before .before .before .before .before .before .before .before .before .forward .ensures in
     let x = c .before .before .before .before .before .forward2 .ensures in

@@ -1,43 +1,11 @@
--- `session::tag` meets its contract: the data closed, the text settled, both lengths, the end pad.
-use Prim.Native.Nat.{ℕ}
-use mathlib.Core.Path.{ap, ap₂, _∙_}
-use mathlib.Core.List.{List}
-use Rattle.words.specs.Xor.{xors}
-use Rattle.ghash.specs.Hash.{eat}
-use Rattle.ghash.proofs.Elements.{Halves}
-use Rattle.digest.specs.Digest.{settled}
-use Rattle.session.specs.Sealing.{Sealing}
-use Rattle.session.specs.Calls.{tag-of}
-use Rattle.session.specs.Machine.{sealingOf}
-use Rattle.session.proofs.Made.{by-bytes}
+-- `session::tag` meets its contract: `tag_with`, with the table made.
+use mathlib.Core.Path.{_∙_}
 use borrow.Author.Needs.{needs}
 use Rattle.session.proofs.tag.Statement.{statement}
 use Rattle.session.proofs.tag.Tie as tie
 
-halves : (c : tie.Start) → Halves (c .args .s .h)
-halves c = record { in-hi = search needs; in-lo = search needs }
-
-close-with-requires : tie.Need-close-with-requires
-close-with-requires c κs = let start = c .before .before .before .before .before in by-bytes (start .args .s .h) _ (halves start) (c .before .fill .ensures)
-
 returns : tie.Need-returns
-unfolding tag-of
-returns c =
-    let s = sealingOf (c .before .before .before .before .before .before .before .before .before .before .before .before .before .before .before .args .s) in
-    let text = c .before .before .before .before .before .before .settle-with .ensures ∙ ap (λ (u : Sealing). settled (s .h) (u .sum) (s .text)) (c .before .before .before .before .before .before .before .before .before .close-with .ensures) in
-    c .to-bytes .ensures ∙ c .before .xor .ensures
-    ∙ ap (λ (x : List ℕ). xors x (s .pad)) (c .before .before .to-block .ensures ∙ c .before .before .before .absorb .ensures ∙ ap₂ (eat (s .h)) text (c .before .before .before .before .before .bits .ensures))
+returns c = c .to-bytes .ensures ∙ c .before .tag-with .ensures
 
 pub tag-spec : {M : Type 1} → statement M
-tag-spec =
-    tie.close
-    (tie.spec
-    (λ c κs. search needs)
-    close-with-requires
-    (λ c κs. search needs)
-    (λ c κs. search needs)
-    (λ c κs. search needs)
-    (λ c κs. search needs)
-    (λ c κs. search needs)
-    (λ c κs. search needs)
-    returns)
+tag-spec = tie.close (tie.spec (λ c κs. search needs) (λ c κs. search needs) (λ c κs. search needs) returns)

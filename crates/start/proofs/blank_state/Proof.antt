@@ -6,7 +6,7 @@ use Rattle.start.proofs.blank_state.Tie as tie
 
 returns : tie.Need-returns
 returns c =
-    let z = c .zero-block .ensures in
+    let z = c .zero .ensures in
     λ i. record { lfsr = record { a = replicate 16 0; b = replicate 16 0 }; r1 = z i; r2 = z i; r3 = z i }
 
 pub blank-state-spec : {M : Type 1} → statement M

@@ -7,7 +7,7 @@ use Rattle.start.proofs.load.Tie as tie
 returns : tie.Need-returns
 returns c =
     let a = c .before .before .before .before .args in
-    let z = c .zero-block .ensures in
+    let z = c .zero .ensures in
     is-load (a .low) (a .high) (a .iv) _ (a .mode) _ _ _ _ _ (c .before .before .mode-block .ensures) (c .before .before .before .cells .ensures)
     (c .before .cells2 .ensures) z z z
 

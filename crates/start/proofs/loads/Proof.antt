@@ -1,8 +1,9 @@
 -- `start::loads` meets its contract: its six tests are the definition's.
 use mathlib.Core.Path.{sym, ap, ap₂, _∙_}
 use mathlib.Core.Bool.{_&&_}
+use Rattle.words.specs.Bytes.{same}
 use Rattle.words.specs.Machine.{bytesOf}
-use Rattle.start.specs.Trace.{same, loads}
+use Rattle.start.specs.Trace.{loads}
 use Rattle.start.proofs.Splitting.{key-low, key-high}
 use borrow.Author.Needs.{needs}
 use Rattle.start.proofs.loads.Statement.{statement}
@@ -11,7 +12,7 @@ use Rattle.start.proofs.loads.Tie as tie
 returns : tie.Need-returns
 unfolding loads
 returns c =
-    let z = c .before .before .before .before .before .before .before .before .before .before .zero-block .ensures in
+    let z = c .before .before .before .before .before .before .before .before .before .before .zero .ensures in
     let s3 = c .before .before .before in
     let h2 = s3 .before in
     let s2 = h2 .before in

@@ -10,7 +10,7 @@ use Rattle.start.proofs.mode_block.Tie as tie
 
 returns : tie.Need-returns
 unfolding littles little
-returns c = c .zero-block .ensures ∙ ap (λ (m : Mode). littles 2 (mode-cells m)) (sym (c .before .enum-told .given .1))
+returns c = c .zero .ensures ∙ ap (λ (m : Mode). littles 2 (mode-cells m)) (sym (c .before .enum-told .given .1))
 
 returns-2 : tie.Need-returns-2
 unfolding bytesOf littles little

@@ -7,7 +7,7 @@ use borrow.Author.Needs.{needs}
 use lib.ListN.{replicate, length-append}
 use Rattle.words.specs.Bytes.{little}
 use Rattle.words.proofs.Bytes.{little-long}
-use Rattle.fields.proofs.Writing.{put-next, put-whole}
+use Rattle.words.proofs.Writing.{put-next, put-whole}
 use Rattle.suspend.proofs.iv_bytes.Statement.{statement}
 use Rattle.suspend.proofs.iv_bytes.Tie as tie
 

@@ -1,14 +1,11 @@
--- `suspend::refused` meets its contract: all bytes of what it hands out are zero.
+-- `suspend::refused` meets its contract: the session is the one that a refused begin hands out.
 use mathlib.Core.Path.{refl}
-use Rattle.words.specs.Bytes.{little, littles}
-use Rattle.words.specs.Machine.{bytesOf}
-use Rattle.ghash.proofs.Elements.{zero-bytes}
+use borrow.Author.Needs.{needs}
 use Rattle.suspend.proofs.refused.Statement.{statement}
 use Rattle.suspend.proofs.refused.Tie as tie
 
 returns : tie.Need-returns
-unfolding bytesOf littles little
-returns c = record { number = refl; iv = refl; session = simp zero-bytes }
+returns c = record { number = refl; iv = refl; session = c .nobody .ensures }
 
 pub refused-spec : {M : Type 1} → statement M
-refused-spec = tie.close (tie.spec returns)
+refused-spec = tie.close (tie.spec (λ c κs. search needs) returns)

@@ -4,7 +4,7 @@ use native.Mathlib.Omega.{arith}
 use lib.ListN.{length}
 use lib.Seq.{sets, take-all}
 use denote.Ref.{now}
-use Rattle.fields.proofs.Writing.{put-front}
+use Rattle.words.proofs.Writing.{put-front}
 use borrow.Author.Needs.{needs}
 use Rattle.tulvekas.proofs.put_block.Statement.{statement}
 use Rattle.tulvekas.proofs.put_block.Tie as tie

@@ -3,7 +3,6 @@ use mathlib.Core.Path.{ap, _∙_}
 use denote.Ref.{now}
 use Rattle.words.specs.Bytes.{littles}
 use Rattle.words.specs.Machine.{bytesOf}
-use native.Mathlib.Omega.{arith}
 use Rattle.words.proofs.Blocks.{four, block-at}
 use borrow.Author.Needs.{needs}
 use Rattle.words.proofs.load.Statement.{statement}

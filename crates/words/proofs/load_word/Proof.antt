@@ -1,6 +1,5 @@
 -- `words::load_word` meets its contract.
 use denote.Ref.{now}
-use native.Mathlib.Omega.{arith}
 use Rattle.words.proofs.Blocks.{word-at}
 use borrow.Author.Needs.{needs}
 use Rattle.words.proofs.load_word.Statement.{statement}

@@ -1,16 +1,16 @@
 -- `words::plus` meets its contract: each word is the definition's.
 use native.Mathlib.Omega.{arith}
-use Rattle.words.specs.Sums.{sums}
-use Rattle.words.proofs.Blocks.{four, is-sum}
+use Rattle.words.specs.Sums.{add32, _⊞_}
+use Rattle.words.proofs.Blocks.{four, is-wordwise}
 use borrow.Author.Needs.{needs}
 use Rattle.words.proofs.plus.Statement.{statement}
 use Rattle.words.proofs.plus.Tie as tie
 
 returns : tie.Need-returns
-unfolding sums
+unfolding _⊞_
 returns c =
     let s = c .before .before .before .before .args in
-    is-sum (s .x) (s .y) _ (record { in-0 = search needs; in-1 = search needs; in-2 = search needs; in-3 = search needs })
+    is-wordwise add32 (s .x) (s .y) _ (record { in-0 = search needs; in-1 = search needs; in-2 = search needs; in-3 = search needs })
     (record { in-0 = search needs; in-1 = search needs; in-2 = search needs; in-3 = search needs })
     (four (omega arith) (omega arith) (omega arith) (omega arith))
 

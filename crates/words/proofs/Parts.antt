@@ -1,13 +1,12 @@
--- Parts of a list: parts of parts, a list that is fields one behind the other, and a list put together from its parts.
+-- Parts of a list: parts of parts, a list that is parts one behind the other, and a list put together from its parts.
 use mathlib.Core.Path.{_≡_, refl, sym, ap, ap₂, _∙_}
 use mathlib.Core.List.{List, [], _∷_, _++_}
 use Prim.Native.Nat.{ℕ, zero, suc, _+_, _-_, _≤_, _<_}
 use native.Mathlib.Omega.{arith}
 use lib.ListN.{length, take, drop, getD}
 use lib.Seq.{take-at, drop-at, drop-cons, drop-drop, take-take, take-add}
-use Rattle.words.specs.Bytes.{Row}
+use Rattle.words.specs.Bytes.{part, joined, Row}
 use Rattle.words.proofs.Rows.{row-take, row-drop}
-use Rattle.fields.specs.Fields.{part}
 
 -- a part, from its byte i on
 pub part-next : (s : List ℕ) (at k i : ℕ) → i < k → at + k ≤ length s
@@ -40,23 +39,19 @@ part-part s at k h j q = ap (take j) (part-behind s at k h (omega arith)) ∙ ta
 pub part-row : (m l : ℕ) {s : List ℕ} → 0 < m → Row l m s → (at k : ℕ) → at + k ≤ l → Row k m (part at k s)
 part-row m l z r at k h = row-take m (l - at) (row-drop m l r at) k z (omega arith)
 
--- ---- apart: from place n on, s is the fields fs
-
-abbrev pub join : List (List ℕ) → List ℕ
-join [] = []
-join (u ∷ fs) = u ++ join fs
+-- ---- apart: from place n on, s is the parts fs
 
 pub record At (s : List ℕ) (n : ℕ) (fs : List (List ℕ)) : Type 0 where
-  pub is : drop n s ≡ join fs
+  pub is : drop n s ≡ joined fs
 
 module _ {s : List ℕ} {n : ℕ} {u : List ℕ} {fs : List (List ℕ)} (d : At s n (u ∷ fs)) (k : ℕ) (e : length u ≡ k) where
   pub down : At s (n + k) fs
-  down = record { is = sym (drop-drop k n s) ∙ ap (drop k) (d .is) ∙ drop-at u (join fs) k e }
+  down = record { is = sym (drop-drop k n s) ∙ ap (drop k) (d .is) ∙ drop-at u (joined fs) k e }
 
   pub here : part n k s ≡ u
-  here = ap (take k) (d .is) ∙ take-at u (join fs) k e
+  here = ap (take k) (d .is) ∙ take-at u (joined fs) k e
 
--- ---- together: one field more
+-- ---- together: one part more
 
 pub grow : (s : List ℕ) (n k : ℕ) {pre f : List ℕ} → pre ≡ take n s → f ≡ part n k s → pre ++ f ≡ take (n + k) s
 grow s n k a b = ap₂ (λ (x y : List ℕ). x ++ y) a b ∙ sym (take-add n k s)

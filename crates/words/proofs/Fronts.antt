@@ -1,4 +1,4 @@
--- A block that is written field after field, over zeros: what has been written stands in front, and zeros behind it.
+-- A list that is written part after part, over zeros: what has been written stands in front, and zeros behind it.
 use mathlib.Core.Path.{_≡_, refl, ap, _∙_}
 use mathlib.Core.List.{List, [], _++_, append-assoc}
 use Prim.Native.Nat.{ℕ, zero, suc, _+_, _-_, _≤_}
@@ -16,7 +16,7 @@ written pre v at m n e f =
     (sets-eq v (pre ++ replicate (length v + n) 0) at (omega (arith, length-append pre (replicate (length v + n) 0), length-replicate {A = ℕ} (length v + n) 0))
     ∙ rw (take-at pre (replicate (length v + n) 0) at e, ← e, drop-append-add pre (replicate (length v + n) 0) (length v), dropped (length v) n))
 
--- the first `at` of l's `all` bytes are pre, and the others zero
+-- the first `at` of l's `all` elements are pre, and the others zero
 pub record Front (all : ℕ) (pre : List ℕ) (at : ℕ) (l : List ℕ) : Type 0 where
   pub is : l ≡ pre ++ replicate (all - at) 0
   pub long : length pre ≡ at
@@ -26,7 +26,7 @@ pub front-none : (all : ℕ) → Front all [] 0 (replicate all 0)
 front-none all = record { is = ap (λ (n : ℕ). replicate n 0) (let e : all ≡ all - 0 = omega arith in e); long = refl; within = omega arith }
 
 module _ {all : ℕ} {pre : List ℕ} {at : ℕ} {l : List ℕ} (p : Front all pre at l) where
-  -- a field more
+  -- a part more
   pub front-put : (v : List ℕ) (k : ℕ) (r : List ℕ) → length v ≡ k → at + k ≤ all → r ≡ sets l at v → Front all (pre ++ v) (at + k) r
   front-put v k r e h q =
       record {

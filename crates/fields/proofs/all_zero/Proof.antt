@@ -1,16 +1,17 @@
--- `fields::blank` meets its contract: what has been seen, and what is left to see, make the answer.
+-- `fields::all_zero` meets its contract: what has been seen, and what is left to see, make the answer.
 use Prim.Native.Nat.{_+_, _-_, _≤_}
 use mathlib.Core.Path.{_≡_}
 use mathlib.Core.Bool.{_&&_}
 use native.Mathlib.Omega.{arith}
 use borrow.Author.Needs.{needs}
-use Rattle.fields.specs.Fields.{blank, part}
-use Rattle.fields.proofs.Blanks.{blank-more, blank-all}
-use Rattle.fields.proofs.blank.Statement.{statement}
-use Rattle.fields.proofs.blank.Tie as tie
+use Rattle.words.specs.Bytes.{part}
+use Rattle.fields.specs.Fields.{all-zero}
+use Rattle.fields.proofs.Zeros.{all-zero-more, all-zero-all}
+use Rattle.fields.proofs.all_zero.Statement.{statement}
+use Rattle.fields.proofs.all_zero.Tie as tie
 
 abbrev Inv-loop : tie.InvT-loop
-Inv-loop s at k all₀ i₀ all i = (i ≤ k) × ((all && blank (part (at + i) (k - i) s)) ≡ blank (part at k s))
+Inv-loop s at k all₀ i₀ all i = (i ≤ k) × ((all && all-zero (part (at + i) (k - i) s)) ≡ all-zero (part at k s))
 
 abbrev μ-loop : tie.MeasureT-loop
 μ-loop s at k all₀ i₀ all i = k - i
@@ -26,16 +27,16 @@ loop-again : tie.Need-loop-again Inv-loop μ-loop
 loop-again c =
     let l = c .before .before .loop in
     let a = c .before .before .before .args in
-    (omega arith, blank-more (a .s .now) (a .at) (a .k) (l .i) (l .all) _ (omega arith) (omega arith) (l .inv .1))
+    (omega arith, all-zero-more (a .s .now) (a .at) (a .k) (l .i) (l .all) _ (omega arith) (omega arith) (l .inv .1))
 
 returns : tie.Need-returns Inv-loop μ-loop
 returns c =
     let l = c .before .loop in
     let a = c .before .before .args in
-    blank-all (a .s .now) (a .at + l .i) (a .k) (l .i) (l .all) _ (omega arith) (l .inv .1)
+    all-zero-all (a .s .now) (a .at + l .i) (a .k) (l .i) (l .all) _ (omega arith) (l .inv .1)
 
-pub blank-spec : {M : Type 1} → statement M
-blank-spec =
+pub all-zero-spec : {M : Type 1} → statement M
+all-zero-spec =
     tie.close
     (tie.spec
     Inv-loop

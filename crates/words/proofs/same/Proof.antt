@@ -1,8 +1,8 @@
--- `start::same` meets its contract: blocks are the same where their words are.
+-- `words::same` meets its contract: blocks are the same where their words are.
 use borrow.Author.Needs.{needs}
-use Rattle.start.proofs.Splitting.{same-words}
-use Rattle.start.proofs.same.Statement.{statement}
-use Rattle.start.proofs.same.Tie as tie
+use Rattle.words.proofs.Blocks.{same-words}
+use Rattle.words.proofs.same.Statement.{statement}
+use Rattle.words.proofs.same.Tie as tie
 
 returns : tie.Need-returns
 returns c =

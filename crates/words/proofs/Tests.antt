@@ -1,0 +1,43 @@
+-- Tests that are computed: both of two that hold together, and whether two lists are the same.
+use mathlib.Core.Path.{_≡_, refl, sym, ap₂}
+use mathlib.Core.Bool.{Bool, true, false, _&&_}
+use mathlib.Core.List.{List, [], _∷_}
+use Prim.Native.Nat.{ℕ}
+use borrow.Author.Tests.{eq-eqb, eqb-true}
+use lib.Dec.{T, eqb}
+use Rattle.words.specs.Bytes.{same}
+
+pub and-left : (a b : Bool) → (a && b) ≡ true → a ≡ true
+and-left true b e = refl
+and-left false b e = e
+
+pub and-right : (a b : Bool) → (a && b) ≡ true → b ≡ true
+and-right true b e = e
+and-right false b e = cc
+
+-- the same of tests that antt computes
+pub both-left : (a b : Bool) → T (a && b) → T a
+both-left true b t = tt
+both-left false b t = t
+
+pub both-right : (a b : Bool) → T (a && b) → T b
+both-right true b t = t
+both-right false b t = absurd t
+
+pub both-ways : (a b : Bool) → (a ≡ true → b ≡ true) → (b ≡ true → a ≡ true) → a ≡ b
+both-ways true b f g = sym (f refl)
+both-ways false true f g = g refl
+both-ways false false f g = refl
+
+pub same-refl : (s : List ℕ) → same s s ≡ true
+unfolding same
+same-refl [] = refl
+same-refl (x ∷ s) = rw (eq-eqb x x refl, same-refl s)
+
+pub same-eq : (s t : List ℕ) → same s t ≡ true → s ≡ t
+unfolding same
+same-eq [] [] e = refl
+same-eq [] (y ∷ t) e = cc
+same-eq (x ∷ s) [] e = cc
+same-eq (x ∷ s) (y ∷ t) e =
+    ap₂ (λ (v : ℕ) (l : List ℕ). v ∷ l) (eqb-true x y (and-left (eqb x y) (same s t) e)) (same-eq s t (and-right (eqb x y) (same s t) e))
