@@ -1,6 +1,7 @@
 /* Tulvekas for C and everything that calls C: SNOW-V sealing of guest pages.
  *
- * Every call here is proved to do exactly what this page says, for every input; docs/PROMISES.md of the repository has the statements.
+ * Every call here is proved to answer and to write exactly what this page says, for every input; docs/PROMISES.md of the repository has the
+ * statements.
  *
  * How to read it
  *   - A slice is a pointer and a length in bytes. One that is only read is `const`. A pointer whose length is 0 is never used and may be NULL;
@@ -10,7 +11,7 @@
  *     no earlier one in the call's order does. A refusal changes no lent byte.
  *   - A lent buffer may be longer than what is written. Bytes beyond what a call writes never change.
  *   - Nothing is kept between calls but what the caller was handed, and no memory is claimed: calls from several threads do not meet, as long
- *     as no two of them write one buffer. All calls together need less than 48 KiB of stack, and none recurs.
+ *     as no two of them write one buffer. No call takes more than 16 KiB of stack, and none recurs.
  *   - Not hidden: the time that a call takes depends on the key and on the bytes, by table look-ups.
  *   - Each stay needs an IV of its own under a key. Two pages under one key and one IV give away the difference of their texts.
  *

@@ -1,0 +1,189 @@
+#include "peers.h"
+
+#include <string.h>
+
+#include "portable.h"
+#include "same.h"
+#include "tulvekas.h"
+
+/* ---- the proved library */
+
+static int ours_keystream(uint8_t *out, size_t bytes)
+{
+    return tulvekas_keystream(key, sizeof key, iv, sizeof iv, 0, out, bytes) != 0;
+}
+
+static int ours_seal(uint8_t *out, uint8_t *tag, size_t bytes)
+{
+    return tulvekas_seal(key, sizeof key, iv, sizeof iv, NULL, 0, text, bytes, out, bytes, tag, 16) != 0;
+}
+
+static int ours_trace(uint8_t *found, const uint8_t *state, uint64_t count)
+{
+    uint8_t sealed;
+    return tulvekas_trace(state, TULVEKAS_STATE_BYTES, key, sizeof key, count, found, 16, &sealed, 1) != 0 || sealed != 1;
+}
+
+static int ours_resume(uint8_t *found, const uint8_t *block)
+{
+    uint8_t session[TULVEKAS_SESSION_BYTES];
+    return tulvekas_take_up(key, sizeof key, block, TULVEKAS_PARKED_BYTES, session, sizeof session, found, 16) != 0;
+}
+
+uint64_t measure_run(const uint8_t *key, size_t key_len, const uint8_t *iv, size_t iv_len, uint64_t back, uint8_t *out, size_t out_len);
+
+static int ours_back(uint8_t *out, size_t bytes)
+{
+    return measure_run(key, sizeof key, iv, sizeof iv, 1, out, bytes) != 0;
+}
+
+/* ---- the same algorithms in C */
+
+static int hand_keystream(uint8_t *out, size_t bytes)
+{
+    same_keystream(key, iv, 0, out, bytes / 16);
+    return 0;
+}
+
+static int hand_seal(uint8_t *out, uint8_t *tag, size_t bytes)
+{
+    same_seal(key, iv, NULL, 0, text, bytes, out, tag);
+    return 0;
+}
+
+static int hand_trace(uint8_t *found, const uint8_t *state, uint64_t count)
+{
+    uint8_t sealed;
+    return same_trace(state, key, count, found, &sealed) != 0 || sealed != 1;
+}
+
+static int hand_resume(uint8_t *found, const uint8_t *block)
+{
+    uint8_t session[TULVEKAS_SESSION_BYTES];
+    return same_take_up(key, block, session, found) != 0;
+}
+
+/* ---- the paper's portable algorithm in C, which has no way back */
+
+static int paper_keystream(uint8_t *out, size_t bytes)
+{
+    portable_keystream(key, iv, 0, out, bytes / 16);
+    return 0;
+}
+
+static int paper_seal(uint8_t *out, uint8_t *tag, size_t bytes)
+{
+    portable_seal(key, iv, NULL, 0, text, bytes, out, tag);
+    return 0;
+}
+
+/* ---- the Rust implementation of tests/differential */
+#ifdef WITH_REFERENCE
+
+uint64_t reference_keystream(const uint8_t *key, const uint8_t *iv, uint64_t sealed, uint8_t *out, size_t blocks);
+uint64_t reference_seal(const uint8_t *key, const uint8_t *iv, const uint8_t *ad, size_t ad_len, const uint8_t *text, size_t text_len,
+                        uint8_t *out, uint8_t *tag);
+uint64_t reference_trace(const uint8_t *state, const uint8_t *key, uint64_t count, uint8_t *iv, uint8_t *sealed);
+uint64_t reference_take_up(const uint8_t *key, const uint8_t *block, uint8_t *iv);
+
+static int rust_keystream(uint8_t *out, size_t bytes)
+{
+    return reference_keystream(key, iv, 0, out, bytes / 16) != 0;
+}
+
+static int rust_seal(uint8_t *out, uint8_t *tag, size_t bytes)
+{
+    return reference_seal(key, iv, NULL, 0, text, bytes, out, tag) != 0;
+}
+
+static int rust_trace(uint8_t *found, const uint8_t *state, uint64_t count)
+{
+    uint8_t sealed;
+    return reference_trace(state, key, count, found, &sealed) != 0 || sealed != 1;
+}
+
+static int rust_resume(uint8_t *found, const uint8_t *block)
+{
+    return reference_take_up(key, block, found) != 0;
+}
+
+#endif
+
+/* ---- OpenSSL: the cipher is set up once per process; each call sets key and IV, as ours do. A keystream is that of the AEAD's cipher: zeros
+ * encrypted. */
+#ifdef WITH_OPENSSL
+
+#include <openssl/crypto.h>
+#include <openssl/evp.h>
+
+/* The context of a cipher, made at its first use. */
+static EVP_CIPHER_CTX *keyed(EVP_CIPHER_CTX **ctx, const EVP_CIPHER *cipher)
+{
+    if (*ctx == NULL) {
+        *ctx = EVP_CIPHER_CTX_new();
+        if (*ctx == NULL || EVP_EncryptInit_ex(*ctx, cipher, NULL, NULL, NULL) != 1)
+            return NULL;
+    }
+    return EVP_EncryptInit_ex(*ctx, NULL, NULL, key, iv) == 1 ? *ctx : NULL;
+}
+
+static int evp_keystream(EVP_CIPHER_CTX *ctx, uint8_t *out, size_t bytes)
+{
+    int n;
+    return ctx == NULL || (bytes > 0 && EVP_EncryptUpdate(ctx, out, &n, zeros, (int)bytes) != 1);
+}
+
+static int evp_seal(EVP_CIPHER_CTX *ctx, uint8_t *out, uint8_t *tag, size_t bytes)
+{
+    int n;
+    return ctx == NULL || EVP_EncryptUpdate(ctx, out, &n, text, (int)bytes) != 1 || EVP_EncryptFinal_ex(ctx, out + n, &n) != 1 ||
+           EVP_CIPHER_CTX_ctrl(ctx, EVP_CTRL_AEAD_GET_TAG, 16, tag) != 1;
+}
+
+static EVP_CIPHER_CTX *aes_ctr, *aes_gcm, *chacha, *chacha_poly;
+
+static int aes_keystream(uint8_t *out, size_t bytes)
+{
+    return evp_keystream(keyed(&aes_ctr, EVP_aes_256_ctr()), out, bytes);
+}
+
+static int aes_seal(uint8_t *out, uint8_t *tag, size_t bytes)
+{
+    return evp_seal(keyed(&aes_gcm, EVP_aes_256_gcm()), out, tag, bytes);
+}
+
+static int chacha_keystream(uint8_t *out, size_t bytes)
+{
+    return evp_keystream(keyed(&chacha, EVP_chacha20()), out, bytes);
+}
+
+static int chacha_seal(uint8_t *out, uint8_t *tag, size_t bytes)
+{
+    return evp_seal(keyed(&chacha_poly, EVP_chacha20_poly1305()), out, tag, bytes);
+}
+
+#endif
+
+const struct peer peers[] = {
+    {"tulvekas", ours_keystream, ours_seal, ours_trace, ours_resume, ours_back, 1},
+    {"same in C", hand_keystream, hand_seal, hand_trace, hand_resume, NULL, 1},
+    {"portable C", paper_keystream, paper_seal, NULL, NULL, NULL, 1},
+#ifdef WITH_REFERENCE
+    {"Rust", rust_keystream, rust_seal, rust_trace, rust_resume, NULL, 1},
+#endif
+#ifdef WITH_OPENSSL
+    {"AES-256-GCM", aes_keystream, aes_seal, NULL, NULL, NULL, 0},
+    {"ChaCha20-Poly1305", chacha_keystream, chacha_seal, NULL, NULL, NULL, 0},
+#endif
+};
+
+const size_t peer_count = sizeof peers / sizeof *peers;
+
+const char *openssl_version(void)
+{
+#ifdef WITH_OPENSSL
+    return OpenSSL_version(OPENSSL_VERSION_STRING);
+#else
+    return NULL;
+#endif
+}

@@ -1,0 +1,183 @@
+#!/usr/bin/env python3
+"""Makes table.md and chart.svg of the results.csv in a directory, and prints the table.
+
+    report.py DIRECTORY [DOCUMENT]
+
+A document gets what stands in the directory's table.md and counts.md, each between <!-- its name --> and <!-- end -->."""
+
+import csv
+import math
+import re
+import sys
+from pathlib import Path
+
+OURS, SAME, PORTABLE = "tulvekas", "same in C", "portable C"
+AES, AES_MASKED = "AES-256-GCM", "AES-256-GCM masked"
+MIB = 1048576
+
+
+def read(path):
+    """What is said of the run, the peers in order, and {(task, size): {peer: (best, median)}}."""
+    said, rows, peers = {}, {}, []
+    with open(path) as f:
+        lines = f.read().splitlines()
+    for line in lines:
+        if line.startswith("# "):
+            name, _, value = line[2:].partition(": ")
+            said[name] = value
+    for line in csv.DictReader(line for line in lines if not line.startswith("#")):
+        peer = line["peer"]
+        if peer not in peers:
+            peers.append(peer)
+        row = rows.setdefault((line["task"], int(line["size"])), {})
+        row[peer] = float(line["best ns"]), float(line["median ns"])
+    return said, peers, rows
+
+
+def label(row):
+    task, size = row
+    if task == "start":
+        return "start"
+    if task in ("trace", "resume"):
+        return f"{task}, {size:,} blocks"
+    return f"{task}, {size:,} bytes"
+
+
+def time(ns):
+    for unit, scale in (("ms", 1e6), ("µs", 1e3)):
+        if ns >= scale:
+            return f"{ns / scale:.3g} {unit}" if ns < 1000 * scale else f"{ns / scale:.0f} {unit}"
+    return f"{ns:.3g} ns"
+
+
+def times(x):
+    return f"{x:.0f}" if x >= 20 else f"{x:.1f}" if x >= 9.95 else f"{x:.2f}"
+
+
+def markdown(head, body):
+    yield "| " + " | ".join(head) + " |"
+    yield "|---" + "|---:" * (len(head) - 1) + "|"
+    for line in body:
+        yield "| " + " | ".join(line) + " |"
+    yield ""
+
+
+def goals(rows):
+    """What was asked, the figure, and whether it is reached; figures of peers that are missing are left out."""
+    def ratio(row, above, below):
+        at = rows[row]
+        return at[above][0] / at[below][0] if above in at and below in at else None
+
+    keystream, seal = ("keystream", MIB), ("seal", MIB)
+    asked = [
+        ("keystream of 1 MiB as fast as the portable C", ratio(keystream, PORTABLE, OURS), "at least", 1.5),
+        ("sealing 1 MiB as fast as the portable C", ratio(seal, PORTABLE, OURS), "at least", 25),
+        ("sealing 1 MiB as fast as OpenSSL's AES-256-GCM, masked", ratio(seal, AES_MASKED, OURS), "at least", 1.5),
+        ("keystream of 1 MiB takes as long as the same algorithms in C", ratio(keystream, OURS, SAME), "at most", 1.3),
+        ("sealing 1 MiB takes as long as the same algorithms in C", ratio(seal, OURS, SAME), "at most", 1.3),
+        ("1 MiB back takes as long as forward", rows[("back", MIB)][OURS][0] / rows[keystream][OURS][0], "at most", 5),
+        ("resuming after 1 MiB takes as long as drawing 65,538 blocks forward",
+         rows[("resume", 65538)][OURS][0] / rows[("keystream", 1048608)][OURS][0], "at most", 6),
+    ]
+    for what, figure, bound, limit in asked:
+        if figure is not None:
+            reached = figure >= limit if bound == "at least" else figure <= limit
+            yield what, figure, f"{bound} {limit:g}", "yes" if reached else "no"
+
+
+def table(said, peers, rows):
+    shown = [row for row in rows if row[0] != "back" and row[1] != 1048608]
+    yield "How long a call takes, best of " + said["rounds"] + " rounds:"
+    yield ""
+    yield from markdown([""] + peers, [[label(row)] + [time(rows[row][p][0]) if p in rows[row] else "-" for p in peers] for row in shown])
+    yield "How many times as fast as the peer the proved library is; below 1 the peer is faster:"
+    yield ""
+    others = [p for p in peers if p != OURS]
+    yield from markdown([""] + others, [
+        [label(row)] + [times(rows[row][p][0] / rows[row][OURS][0]) if p in rows[row] else "-" for p in others] for row in shown])
+    yield "MiB a second at 1 MiB:"
+    yield ""
+    yield from markdown([""] + peers, [
+        [task] + [f"{1e9 / rows[(task, MIB)][p][0]:.0f}" if p in rows[(task, MIB)] else "-" for p in peers] for task in ("keystream", "seal")])
+    yield "What was asked:"
+    yield ""
+    yield from markdown(["", "times", "asked", "reached"], [
+        [what, f"{figure:.3f}" if figure < 10 else f"{figure:.1f}", asked, reached] for what, figure, asked, reached in goals(rows)])
+    spread = sorted(median / best for row in rows.values() for best, median in row.values())
+    yield f"All calls of the library ran on a thread with a stack of 64 KiB and wrote {said['stack'].split()[0]} bytes of it."
+    yield ""
+    yield f"The run had the processor for {said['processor share']} of the time that it measured. Over all figures the median round took"
+    yield f"{spread[len(spread) // 2]:.2f} times the best, at worst {spread[-1]:.2f}. (Below 99% other programs ran, and the long calls look slower than they are.)"
+    yield ""
+    yield "Run on: " + "; ".join(f"{name} {said[name]}" for name in ("processor", "gcc", "rustc", "OpenSSL") if name in said) + "."
+    if "masked" in said:
+        longer = rows[("seal", MIB)][AES_MASKED][0] / rows[("seal", MIB)][AES][0]
+        yield f"Masked: `{said['masked']}`, in a second process that takes its turn in each round."
+        yield f"Sealing 1 MiB by AES-256-GCM takes {times(longer)} times as long under it" + ("." if longer > 1.5 else ": the mask does not work here.")
+
+
+COLOURS = ["#4477aa", "#66ccee", "#228833", "#ee6677", "#ccbb44", "#aa3377", "#bbbbbb"]
+
+
+def chart(peers, rows):
+    """For each row a bar for each peer: the peer's time over ours, on a logarithmic axis around 1."""
+    others = [p for p in peers if p != OURS]
+    colour = dict(zip(others, COLOURS))
+    shown = [row for row in rows if row[0] != "back" and row[1] != 1048608]
+    bar, gap, left, width, top = 11, 12, 190, 640, 96
+    powers = [math.log2(rows[r][p][0] / rows[r][OURS][0]) for r in shown for p in others if p in rows[r]]
+    low, high = math.floor(min(powers) - 0.3), math.ceil(max(powers) + 0.3)
+
+    def x(ratio):
+        return left + (math.log2(ratio) - low) / (high - low) * width
+
+    middle = x(1)
+    y, bars = top, []
+    for row in shown:
+        mine = rows[row][OURS][0]
+        there = [p for p in others if p in rows[row]]
+        height = bar * len(there)
+        bars.append(f'<text x="{left - 10}" y="{y + height / 2 + 1:.1f}" text-anchor="end">{label(row)}</text>')
+        bars.append(f'<text x="{left - 10}" y="{y + height / 2 + 14:.1f}" text-anchor="end" class="small">{time(mine)}</text>')
+        for i, p in enumerate(there):
+            ratio = rows[row][p][0] / mine
+            at, to = sorted((middle, x(ratio)))
+            bars.append(f'<rect x="{at:.1f}" y="{y + bar * i}" width="{to - at:.1f}" height="{bar - 1}" fill="{colour[p]}"/>')
+            anchor, shift = ("start", 4) if ratio >= 1 else ("end", -4)
+            bars.append(f'<text x="{x(ratio) + shift:.1f}" y="{y + bar * i + 9}" text-anchor="{anchor}" class="small">{times(ratio)}</text>')
+        y += max(height, 2 * bar) + gap
+    total = left + width + 40
+    yield f'<svg xmlns="http://www.w3.org/2000/svg" viewBox="0 0 {total} {y + 30}" width="{total}" height="{y + 30}" font-family="sans-serif" font-size="12">'
+    yield "<style>.small { font-size: 10px; fill: #444 }</style>"
+    yield f'<rect width="{total}" height="{y + 30}" fill="white"/>'
+    yield '<text x="20" y="24" font-size="15">How many times as fast as each peer the proved library is</text>'
+    yield '<text x="20" y="42" class="small">the peer\'s time over ours, logarithmic; left of 1 the peer is faster; below each row, the time of ours</text>'
+    at = 20
+    for p in others:
+        yield f'<rect x="{at:.0f}" y="56" width="10" height="10" fill="{colour[p]}"/><text x="{at + 14:.0f}" y="65" class="small">{p}</text>'
+        at += 32 + 5.6 * len(p)
+    for power in range(low, high + 1):
+        tick = x(2.0 ** power)
+        yield f'<line x1="{tick:.1f}" y1="{top - 8}" x2="{tick:.1f}" y2="{y}" stroke="{"#222" if power == 0 else "#ddd"}"/>'
+        name = str(2 ** power) if power >= 0 else f"1/{2 ** -power}"
+        yield f'<text x="{tick:.1f}" y="{y + 16}" text-anchor="middle" class="small">{name}</text>'
+    yield from bars
+    yield "</svg>"
+
+
+def main():
+    results = Path(sys.argv[1])
+    said, peers, rows = read(results / "results.csv")
+    text = "\n".join(table(said, peers, rows)) + "\n"
+    (results / "table.md").write_text(text)
+    (results / "chart.svg").write_text("\n".join(chart(peers, rows)) + "\n")
+    print(text, end="")
+    for document in map(Path, sys.argv[2:]):
+        whole = document.read_text()
+        for name in ("table.md", "counts.md"):
+            part = (results / name).read_text().strip()
+            whole = re.sub(rf"(<!-- {re.escape(name)} -->\n).*?(<!-- end -->)", lambda at: f"{at[1]}\n{part}\n\n{at[2]}", whole, flags=re.S)
+        document.write_text(whole)
+
+
+main()

@@ -1,0 +1,128 @@
+//! The calls of include/tulvekas.h on slices: document 01's orders, and what C adds to them. A buffer that must be written and is too
+//! short gives 4 last; a session, block or state of another length than its own gives 8 where it is read.
+//!
+//! A C session is lent bytes whose contents are not documented. Here it is a [`Session`] beside the length of those bytes.
+
+use crate::block::Block;
+use crate::cipher::{iv as iv_of, run, Key, Mode, State, MOST_BLOCKS};
+use crate::keeping;
+use crate::page;
+use crate::parked;
+use crate::refusal::{require, Refusal};
+use crate::session::Session;
+use crate::trace;
+
+/// `TULVEKAS_SESSION_BYTES`.
+pub const SESSION_BYTES: usize = 216;
+/// `TULVEKAS_STATE_BYTES`.
+pub const STATE_BYTES: usize = 112;
+
+type Answer<T> = Result<T, Refusal>;
+
+/// Refusal 4.
+fn room(out_len: usize, needed: usize) -> Answer<()> {
+    require(out_len >= needed, Refusal::ShortOutput)
+}
+
+/// Refusal 8 where a session is read.
+fn whole_session(session_len: usize) -> Answer<()> {
+    require(session_len == SESSION_BYTES, Refusal::BadBlock)
+}
+
+/// `tulvekas_seal`: 1, 2, 3, 4.
+pub fn seal(key: &[u8], iv: &[u8], ad: &[u8], text: &[u8], out: &mut [u8], tag: &mut [u8]) -> Answer<()> {
+    let mut cipher = vec![0; text.len().min(out.len())];
+    let made = page::seal(key, iv, ad, text, &mut cipher)?;
+    room(tag.len(), 16)?;
+    out[..cipher.len()].copy_from_slice(&cipher);
+    tag[..16].copy_from_slice(&made);
+    Ok(())
+}
+
+/// `tulvekas_open`: 1, 2, 10, 3, 4, 5.
+pub fn open(key: &[u8], iv: &[u8], ad: &[u8], cipher: &[u8], tag: &[u8], out: &mut [u8]) -> Answer<()> {
+    page::open(key, iv, ad, cipher, tag, out)
+}
+
+/// `tulvekas_begin`: 1, 2, 4.
+pub fn begin(key: &[u8], iv: &[u8], session_len: usize) -> Answer<Session> {
+    let session = Session::begin(key, iv)?;
+    room(session_len, SESSION_BYTES)?;
+    Ok(session)
+}
+
+/// `tulvekas_data`: 8, 7, 3.
+pub fn data(session: &mut Session, session_len: usize, piece: &[u8]) -> Answer<()> {
+    whole_session(session_len)?;
+    session.data(piece)
+}
+
+/// `tulvekas_text`: 8, 7, 3, 4.
+pub fn text(session: &mut Session, session_len: usize, piece: &[u8], out: &mut [u8]) -> Answer<()> {
+    whole_session(session_len)?;
+    session.text(piece, out)
+}
+
+/// `tulvekas_finish`: 8, 7, 4.
+pub fn finish(session: &mut Session, session_len: usize, tag: &mut [u8]) -> Answer<()> {
+    whole_session(session_len)?;
+    let mut finished = session.clone();
+    let made = finished.finish()?;
+    room(tag.len(), 16)?;
+    tag[..16].copy_from_slice(&made);
+    *session = finished;
+    Ok(())
+}
+
+/// `tulvekas_park`: 8, 7, 4.
+pub fn park(session: &Session, session_len: usize, block: &mut [u8]) -> Answer<()> {
+    whole_session(session_len)?;
+    parked::park(session, block)
+}
+
+/// `tulvekas_take_up`: 1, 8, 6, 4.
+pub fn take_up(key: &[u8], block: &[u8], session_len: usize, iv: &mut [u8]) -> Answer<Session> {
+    let (session, found) = parked::take_up(key, block)?;
+    room(session_len, SESSION_BYTES)?;
+    room(iv.len(), 16)?;
+    iv[..16].copy_from_slice(&found);
+    Ok(session)
+}
+
+/// The mode that a number names: 0 plain, any other sealed.
+pub fn mode(sealed: u64) -> Mode {
+    if sealed == 0 {
+        Mode::Plain
+    } else {
+        Mode::Sealed
+    }
+}
+
+/// `tulvekas_keystream`: 1, 2, 9.
+pub fn keystream(key: &[u8], iv: &[u8], sealed: u64, out: &mut [u8]) -> Answer<()> {
+    let key = Key::new(key)?;
+    let iv: Block = iv_of(iv)?;
+    let blocks = out.len() as u64 / 16;
+    require(blocks <= MOST_BLOCKS, Refusal::CountTooHigh)?;
+    run(&mut State::start(&key, &iv, mode(sealed)), blocks, out)
+}
+
+/// `tulvekas_trace`: 1, 8, 9, 6, 4.
+pub fn trace(state: &[u8], key: &[u8], count: u64, iv: &mut [u8], sealed: &mut [u8]) -> Answer<()> {
+    Key::new(key)?;
+    let state: &[u8; STATE_BYTES] = state.try_into().map_err(|_| Refusal::BadBlock)?;
+    let (found, mode) = trace::trace(&State::from_bytes(state), key, count)?;
+    room(iv.len(), 16)?;
+    room(sealed.len(), 1)?;
+    iv[..16].copy_from_slice(&found);
+    sealed[0] = u8::from(mode == Mode::Sealed);
+    Ok(())
+}
+
+/// `tulvekas_kept`: 12, 4.
+pub fn kept(today: u64, departure: u64, kept: &mut [u8]) -> Answer<()> {
+    let answer = keeping::kept(today, departure)?;
+    room(kept.len(), 1)?;
+    kept[0] = u8::from(answer);
+    Ok(())
+}

@@ -1,0 +1,221 @@
+//! SNOW-V: the paper, section 2, equations 5 to 11, algorithms 1, 2 and 4, and the start values of section 4; document 01, "Round,
+//! step and step back" and "Start and trace".
+
+use crate::aes::{round, round_back};
+use crate::block::{cells, from_cells, minus, padded, plus, xor, Block};
+use crate::lfsr::{clock, clock_back, Register};
+use crate::refusal::{require, Refusal};
+
+/// The most blocks of keystream that may be drawn (document 01, refusal 9).
+pub const MOST_BLOCKS: u64 = 65_538;
+
+/// What the low half of LFSR-B is loaded with.
+#[derive(Clone, Copy, Debug, PartialEq, Eq, Hash)]
+pub enum Mode {
+    /// Algorithm 1, line 5: zeros.
+    Plain,
+    /// Equation 12: for use with GHASH.
+    Sealed,
+}
+
+impl Mode {
+    /// Cells b0 to b7 at the start.
+    fn low_b(self) -> [u16; 8] {
+        match self {
+            Mode::Plain => [0; 8],
+            Mode::Sealed => [0x6c41, 0x7865, 0x6b45, 0x2064, 0x694a, 0x676e, 0x6854, 0x6d6f],
+        }
+    }
+}
+
+/// A key: k0 to k7 are the cells of `low`, k8 to k15 those of `high`.
+#[derive(Clone, Copy, Debug, PartialEq, Eq)]
+pub struct Key {
+    low: Block,
+    high: Block,
+}
+
+impl Key {
+    /// Refuses 1 unless there are 32 bytes.
+    pub fn new(bytes: &[u8]) -> Result<Key, Refusal> {
+        require(bytes.len() == 32, Refusal::KeyLength)?;
+        Ok(Key { low: padded(&bytes[..16]), high: padded(&bytes[16..]) })
+    }
+}
+
+/// An IV, document 01's stay number; refuses 2 unless there are 16 bytes.
+pub fn iv(bytes: &[u8]) -> Result<Block, Refusal> {
+    require(bytes.len() == 16, Refusal::IvLength)?;
+    Ok(padded(bytes))
+}
+
+/// A cipher state (document 01, "Start and trace"): the contents of A, B, R1, R2 and R3.
+#[derive(Clone, Debug, PartialEq, Eq, Hash)]
+pub struct State {
+    /// LFSR-A.
+    pub a: Register,
+    /// LFSR-B.
+    pub b: Register,
+    /// Register R1 of the FSM.
+    pub r1: Block,
+    /// Register R2 of the FSM.
+    pub r2: Block,
+    /// Register R3 of the FSM.
+    pub r3: Block,
+}
+
+/// The permutation of equation 11: byte SIGMA[i] moves to position i.
+const SIGMA: [usize; 16] = [0, 4, 8, 12, 1, 5, 9, 13, 2, 6, 10, 14, 3, 7, 11, 15];
+
+fn sigma(x: &Block) -> Block {
+    std::array::from_fn(|i| x[SIGMA[i]])
+}
+
+fn sigma_back(x: &Block) -> Block {
+    let mut y = [0; 16];
+    for i in 0..16 {
+        y[SIGMA[i]] = x[i];
+    }
+    y
+}
+
+impl State {
+    /// The tap T1, equation 5.
+    fn t1(&self) -> Block {
+        from_cells(&self.b[8..])
+    }
+
+    /// The tap T2, equation 6.
+    fn t2(&self) -> Block {
+        from_cells(&self.a[..8])
+    }
+
+    /// Algorithm 4: equations 8, 9 and 10, all from the old registers.
+    fn fsm_update(&mut self) {
+        let sum = plus(&self.r2, &xor(&self.r3, &self.t2()));
+        self.r3 = round(&self.r2);
+        self.r2 = round(&self.r1);
+        self.r1 = sigma(&sum);
+    }
+
+    /// Algorithm 3: eight clocks.
+    fn lfsr_update(&mut self) {
+        for _ in 0..8 {
+            clock(&mut self.a, &mut self.b);
+        }
+    }
+
+    /// One pass of the loop of algorithm 2; gives z of equation 7.
+    pub fn step(&mut self) -> Block {
+        let z = xor(&plus(&self.r1, &self.t1()), &self.r2);
+        self.fsm_update();
+        self.lfsr_update();
+        z
+    }
+
+    /// Undoes [`State::step`] and gives that step's z (document 01, "Stepping back").
+    ///
+    /// R3 is found last, since T2 of equation 8 is that of the registers before the eight clocks.
+    pub fn step_back(&mut self) -> Block {
+        for _ in 0..8 {
+            clock_back(&mut self.a, &mut self.b);
+        }
+        let sum = sigma_back(&self.r1);
+        self.r1 = round_back(&self.r2);
+        self.r2 = round_back(&self.r3);
+        self.r3 = xor(&minus(&sum, &self.r2), &self.t2());
+        xor(&plus(&self.r1, &self.t1()), &self.r2)
+    }
+
+    /// Algorithm 1, lines 2 to 6, and equation 12.
+    pub fn load(key: &Key, iv: &Block, mode: Mode) -> State {
+        let mut state = State { a: [0; 16], b: [0; 16], r1: [0; 16], r2: [0; 16], r3: [0; 16] };
+        state.a[8..].copy_from_slice(&cells(&key.low));
+        state.a[..8].copy_from_slice(&cells(iv));
+        state.b[8..].copy_from_slice(&cells(&key.high));
+        state.b[..8].copy_from_slice(&mode.low_b());
+        state
+    }
+
+    /// Xors a block into a8 to a15, as algorithm 1, line 12, does.
+    fn add_to_high_a(&mut self, z: &Block) {
+        for (cell, z) in self.a[8..].iter_mut().zip(cells(z)) {
+            *cell ^= z;
+        }
+    }
+
+    /// What algorithm 1, lines 13 and 14, xors into R1 at the end of step `t`, counted from 1.
+    fn add_key_to_r1(&mut self, key: &Key, t: u32) {
+        match t {
+            15 => self.r1 = xor(&self.r1, &key.low),
+            16 => self.r1 = xor(&self.r1, &key.high),
+            _ => {}
+        }
+    }
+
+    /// Pass `t` of the loop of algorithm 1; gives its z.
+    pub fn start_step(&mut self, key: &Key, t: u32) -> Block {
+        let z = self.step();
+        self.add_to_high_a(&z);
+        self.add_key_to_r1(key, t);
+        z
+    }
+
+    /// Undoes [`State::start_step`].
+    ///
+    /// The step's z has to be known before the clocks can be undone. Its R1 and R2 follow from R2 and R3 of after, and its T1, the old
+    /// b8 to b15, has moved to b0 to b7.
+    pub fn start_step_back(&mut self, key: &Key, t: u32) {
+        self.add_key_to_r1(key, t);
+        let z = xor(&plus(&round_back(&self.r2), &from_cells(&self.b[..8])), &round_back(&self.r3));
+        self.add_to_high_a(&z);
+        self.step_back();
+    }
+
+    /// Algorithm 1 (document 01, "start").
+    pub fn start(key: &Key, iv: &Block, mode: Mode) -> State {
+        let mut state = State::load(key, iv, mode);
+        for t in 1..=16 {
+            state.start_step(key, t);
+        }
+        state
+    }
+
+    /// The IV and mode whose start under the key is this state, if there are any.
+    pub fn start_back(mut self, key: &Key) -> Option<(Block, Mode)> {
+        for t in (1..=16).rev() {
+            self.start_step_back(key, t);
+        }
+        let iv = from_cells(&self.a[..8]);
+        [Mode::Plain, Mode::Sealed].into_iter().find(|mode| self == State::load(key, &iv, *mode)).map(|mode| (iv, mode))
+    }
+
+    /// The 112 bytes that a parked block has at 16 to 127 (document 01, "Sessions and parking").
+    pub fn to_bytes(&self) -> [u8; 112] {
+        let mut bytes = [0; 112];
+        for (i, cell) in self.a.iter().chain(&self.b).enumerate() {
+            bytes[2 * i..2 * i + 2].copy_from_slice(&cell.to_le_bytes());
+        }
+        for (i, register) in [self.r1, self.r2, self.r3].iter().enumerate() {
+            bytes[64 + 16 * i..80 + 16 * i].copy_from_slice(register);
+        }
+        bytes
+    }
+
+    /// The state of 112 such bytes.
+    pub fn from_bytes(bytes: &[u8; 112]) -> State {
+        let cell = |i: usize| u16::from_le_bytes([bytes[2 * i], bytes[2 * i + 1]]);
+        let register = |i: usize| padded(&bytes[64 + 16 * i..80 + 16 * i]);
+        State { a: std::array::from_fn(cell), b: std::array::from_fn(|i| cell(16 + i)), r1: register(0), r2: register(1), r3: register(2) }
+    }
+}
+
+/// Writes the blocks of `n` steps in the order made (document 01: running forward). Refuses 9, 4.
+pub fn run(state: &mut State, n: u64, out: &mut [u8]) -> Result<(), Refusal> {
+    require(n <= MOST_BLOCKS, Refusal::CountTooHigh)?;
+    require(out.len() as u64 >= 16 * n, Refusal::ShortOutput)?;
+    for block in out.chunks_exact_mut(16).take(n as usize) {
+        block.copy_from_slice(&state.step());
+    }
+    Ok(())
+}

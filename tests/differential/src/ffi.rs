@@ -1,0 +1,92 @@
+//! What a benchmark calls. Keys have 32 bytes, IVs and tags 16, states 112 and parked sessions 512; each call answers 0 or the number
+//! of a refusal.
+
+use crate::calls::{self, mode};
+use crate::cipher::{run, Key, State};
+use crate::refusal::{number, Refusal};
+use crate::{page, parked};
+use std::slice::{from_raw_parts, from_raw_parts_mut};
+
+/// A pointer with a length of 0 may be anything in C, not so in a slice.
+unsafe fn read<'a>(bytes: *const u8, len: usize) -> &'a [u8] {
+    if len == 0 {
+        &[]
+    } else {
+        from_raw_parts(bytes, len)
+    }
+}
+
+unsafe fn written<'a>(bytes: *mut u8, len: usize) -> &'a mut [u8] {
+    if len == 0 {
+        &mut []
+    } else {
+        from_raw_parts_mut(bytes, len)
+    }
+}
+
+unsafe fn started(key: *const u8, iv: *const u8, sealed: u64) -> Result<State, Refusal> {
+    let key = Key::new(read(key, 32))?;
+    let iv = crate::cipher::iv(read(iv, 16))?;
+    Ok(State::start(&key, &iv, mode(sealed)))
+}
+
+/// The first blocks of keystream; refuses 9.
+///
+/// # Safety
+/// `out` points to 16 bytes for each block.
+#[no_mangle]
+pub unsafe extern "C" fn reference_keystream(key: *const u8, iv: *const u8, sealed: u64, out: *mut u8, blocks: usize) -> u64 {
+    number(&started(key, iv, sealed).and_then(|mut state| run(&mut state, blocks as u64, written(out, 16 * blocks))))
+}
+
+/// Seals a page; refuses 3.
+///
+/// # Safety
+/// `out` points to `text_len` bytes.
+#[no_mangle]
+#[allow(clippy::too_many_arguments)]
+pub unsafe extern "C" fn reference_seal(
+    key: *const u8,
+    iv: *const u8,
+    ad: *const u8,
+    ad_len: usize,
+    text: *const u8,
+    text_len: usize,
+    out: *mut u8,
+    tag: *mut u8,
+) -> u64 {
+    let sealed = page::seal(read(key, 32), read(iv, 16), read(ad, ad_len), read(text, text_len), written(out, text_len));
+    number(&sealed.map(|made| written(tag, 16).copy_from_slice(&made)))
+}
+
+/// The state right after the start, as a parked session lists it.
+///
+/// # Safety
+/// `state` points to 112 bytes.
+#[no_mangle]
+pub unsafe extern "C" fn reference_start(key: *const u8, iv: *const u8, sealed: u64, state: *mut u8) -> u64 {
+    number(&started(key, iv, sealed).map(|made| written(state, 112).copy_from_slice(&made.to_bytes())))
+}
+
+/// The IV and mode that lead to a state after `count` blocks; refuses 9, 6.
+///
+/// # Safety
+/// `state` points to 112 bytes, `iv` to 16, `sealed` to one.
+#[no_mangle]
+pub unsafe extern "C" fn reference_trace(state: *const u8, key: *const u8, count: u64, iv: *mut u8, sealed: *mut u8) -> u64 {
+    number(&calls::trace(read(state, 112), read(key, 32), count, written(iv, 16), written(sealed, 1)))
+}
+
+/// Takes a parked session up and gives its IV; refuses 8, 6.
+///
+/// # Safety
+/// `block` points to 512 bytes, `iv` to 16.
+#[no_mangle]
+pub unsafe extern "C" fn reference_take_up(key: *const u8, block: *const u8, iv: *mut u8) -> u64 {
+    let taken = parked::take_up(read(key, 32), read(block, 512));
+    number(&taken.map(|(session, found)| {
+        // The session is what the walk is made for; without this a compiler may leave parts of it out.
+        std::hint::black_box(&session);
+        written(iv, 16).copy_from_slice(&found);
+    }))
+}

@@ -1,0 +1,93 @@
+//! Parked sessions: document 01, "Sessions and parking", from "Park (7, 4) writes 512 bytes" on.
+
+use crate::block::{padded, Block};
+use crate::cipher::{Key, Mode, State};
+use crate::page::{MOST_DATA, MOST_TEXT};
+use crate::refusal::{require, Refusal};
+use crate::session::{Phase, Session};
+
+/// Bytes of a parked session.
+pub const PARKED_BYTES: usize = 512;
+
+/// The sum modulo 2^32 of the 127 words of 32 bits before the check.
+pub fn check(block: &[u8; PARKED_BYTES]) -> u32 {
+    (0..127).fold(0u32, |sum, i| sum.wrapping_add(word(block, 4 * i)))
+}
+
+/// The 32-bit number that stands at a place, low byte first.
+fn word(block: &[u8; PARKED_BYTES], at: usize) -> u32 {
+    u32::from_le_bytes([block[at], block[at + 1], block[at + 2], block[at + 3]])
+}
+
+/// Writes the session to the front of `out`. Refuses 7, 4.
+pub fn park(session: &Session, out: &mut [u8]) -> Result<(), Refusal> {
+    let phase = match session.phase {
+        Phase::Data => 0,
+        Phase::Text => 1,
+        Phase::Finished => return Err(Refusal::OutOfPhase),
+    };
+    require(out.len() >= PARKED_BYTES, Refusal::ShortOutput)?;
+    let mut block = [0; PARKED_BYTES];
+    block[0] = phase;
+    block[4..8].copy_from_slice(&(session.data as u32).to_le_bytes());
+    block[8..12].copy_from_slice(&(session.text as u32).to_le_bytes());
+    block[16..128].copy_from_slice(&session.state.to_bytes());
+    block[128..144].copy_from_slice(&session.hash);
+    block[144..160].copy_from_slice(&session.pending);
+    let sum = check(&block);
+    block[508..].copy_from_slice(&sum.to_le_bytes());
+    out[..PARKED_BYTES].copy_from_slice(&block);
+    Ok(())
+}
+
+/// Whether 512 bytes keep every layout rule.
+fn well_laid(block: &[u8; PARKED_BYTES]) -> bool {
+    let (data, text) = (word(block, 4), word(block, 8));
+    let of_phase = if block[0] == 0 { data } else { text };
+    let zero = |from: usize, to: usize| block[from..to].iter().all(|byte| *byte == 0);
+    block[0] <= 1
+        && u64::from(data) <= MOST_DATA
+        && u64::from(text) <= MOST_TEXT
+        && (block[0] == 1 || text == 0)
+        && zero(1, 4)
+        && zero(12, 16)
+        && zero(144 + of_phase as usize % 16, 160)
+        && zero(160, 508)
+        && word(block, 508) == check(block)
+}
+
+/// The session that was parked, and its IV. Refuses 1, 8, 6.
+pub fn take_up(key: &[u8], block: &[u8]) -> Result<(Session, Block), Refusal> {
+    let key = Key::new(key)?;
+    let block: &[u8; PARKED_BYTES] = block.try_into().map_err(|_| Refusal::BadBlock)?;
+    require(well_laid(block), Refusal::BadBlock)?;
+    let text = u64::from(word(block, 8));
+    let state = State::from_bytes(block[16..128].try_into().unwrap());
+
+    let mut walk = state.clone();
+    let mut current = [0; 16];
+    let blocks = text.div_ceil(16);
+    for i in 0..blocks {
+        let z = walk.step_back();
+        if i == 0 && text % 16 != 0 {
+            current = z;
+        }
+    }
+    let end_pad = walk.step_back();
+    let h = walk.step_back();
+    let (iv, mode) = walk.start_back(&key).ok_or(Refusal::NoOrigin)?;
+    require(mode == Mode::Sealed, Refusal::NoOrigin)?;
+
+    let session = Session {
+        phase: if block[0] == 0 { Phase::Data } else { Phase::Text },
+        data: u64::from(word(block, 4)),
+        text,
+        state,
+        hash: padded(&block[128..144]),
+        pending: padded(&block[144..160]),
+        h,
+        end_pad,
+        current,
+    };
+    Ok((session, iv))
+}

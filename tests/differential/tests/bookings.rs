@@ -1,0 +1,153 @@
+//! The reference alone against document 01's trial bookings, and both directions of the cipher against each other.
+
+use reference::block::plus;
+use reference::cipher::{run, Key, Mode, State, MOST_BLOCKS};
+use reference::lfsr::{alpha, alpha_inverse, beta, beta_inverse, clock, clock_back};
+use reference::refusal::Refusal;
+use reference::session::Session;
+use reference::{aes, ghash, keeping, page};
+
+const ZERO: State = State { a: [0; 16], b: [0; 16], r1: [0; 16], r2: [0; 16], r3: [0; 16] };
+
+#[test]
+fn cells() {
+    assert_eq!(alpha(0x8000), 0x990f);
+    assert_eq!(alpha_inverse(1), 0xcc87);
+    assert_eq!(beta(0x8000), 0xc963);
+    assert_eq!(beta_inverse(1), 0xe4b1);
+    for v in 0..=u16::MAX {
+        assert_eq!(alpha_inverse(alpha(v)), v);
+        assert_eq!(beta_inverse(beta(v)), v);
+    }
+}
+
+#[test]
+fn one_clock() {
+    let (mut a, mut b) = ([0; 16], [0; 16]);
+    a[0] = 1;
+    clock(&mut a, &mut b);
+    let (mut after_a, mut after_b) = ([0; 16], [0; 16]);
+    after_a[15] = 2;
+    after_b[15] = 1;
+    assert_eq!((a, b), (after_a, after_b));
+    clock_back(&mut a, &mut b);
+    let mut before_a = [0; 16];
+    before_a[0] = 1;
+    assert_eq!((a, b), (before_a, [0; 16]));
+}
+
+/// Each single bit of the 512, there and back: the clock is linear, so this covers every state of the registers.
+#[test]
+fn clock_undone() {
+    for bit in 0..512 {
+        let (mut a, mut b) = ([0u16; 16], [0u16; 16]);
+        let register = if bit < 256 { &mut a } else { &mut b };
+        register[bit / 16 % 16] = 1 << (bit % 16);
+        let before = (a, b);
+        clock(&mut a, &mut b);
+        clock_back(&mut a, &mut b);
+        assert_eq!((a, b), before);
+        clock_back(&mut a, &mut b);
+        clock(&mut a, &mut b);
+        assert_eq!((a, b), before);
+    }
+}
+
+/// FIPS 197, appendix B, round 1: the state behind MixColumns, by columns.
+#[test]
+fn aes_round() {
+    let hex = |text: &str| -> [u8; 16] { std::array::from_fn(|i| u8::from_str_radix(&text[2 * i..2 * i + 2], 16).unwrap()) };
+    let start = hex("193de3bea0f4e22b9ac68d2ae9f84808");
+    let mixed = hex("046681e5e0cb199a48f8d37a2806264c");
+    assert_eq!(aes::round(&start), mixed);
+    assert_eq!(aes::round_back(&mixed), start);
+    assert_eq!(aes::round(&[0; 16]), [0x63; 16]);
+    for byte in 0..=255 {
+        let block = std::array::from_fn(|i| if i % 5 == 0 { byte } else { 0 });
+        assert_eq!(aes::round_back(&aes::round(&block)), block);
+    }
+}
+
+#[test]
+fn zero_state() {
+    let mut state = ZERO;
+    assert_eq!([state.step(), state.step(), state.step()], [[0; 16], [0x63; 16], [0xa5; 16]]);
+}
+
+#[test]
+fn no_carry_between_words() {
+    let mut x = [0; 16];
+    x[..4].fill(0xff);
+    let mut one = [0; 16];
+    one[0] = 1;
+    assert_eq!(plus(&x, &one), [0; 16]);
+}
+
+#[test]
+fn ghash_product() {
+    let one = 0x80 << 120;
+    assert_eq!(ghash::multiply(one, 0x1234_5678), 0x1234_5678);
+    assert_eq!(ghash::multiply(0x1234_5678, one), 0x1234_5678);
+    assert_eq!(ghash::multiply(1, 0x40 << 120), 0xe1 << 120);
+}
+
+#[test]
+fn first_start_block_is_the_high_half_of_the_key() {
+    let bytes: [u8; 32] = std::array::from_fn(|i| (37 * i + 11) as u8);
+    let key = Key::new(&bytes).unwrap();
+    for mode in [Mode::Plain, Mode::Sealed] {
+        assert_eq!(State::load(&key, &[0x5a; 16], mode).start_step(&key, 1)[..], bytes[16..]);
+    }
+}
+
+#[test]
+fn steps_undone() {
+    let bytes: [u8; 112] = std::array::from_fn(|i| (i * i + 3 * i + 7) as u8);
+    let before = State::from_bytes(&bytes);
+    assert_eq!(before.to_bytes(), bytes);
+    let mut state = before.clone();
+    let forward: Vec<_> = (0..100).map(|_| state.step()).collect();
+    let mut back: Vec<_> = (0..100).map(|_| state.step_back()).collect();
+    back.reverse();
+    assert_eq!(forward, back);
+    assert_eq!(state, before);
+    let mut back: Vec<_> = (0..100).map(|_| state.step_back()).collect();
+    back.reverse();
+    assert_eq!(back, (0..100).map(|_| state.step()).collect::<Vec<_>>());
+    assert_eq!(state, before);
+}
+
+#[test]
+fn no_data_and_no_text() {
+    let (key, iv) = ([7; 32], [9; 16]);
+    let mut state = State::start(&Key::new(&key).unwrap(), &iv, Mode::Sealed);
+    state.step();
+    let end_pad = state.step();
+    assert_eq!(page::seal(&key, &iv, &[], &[], &mut []), Ok(end_pad));
+    assert_eq!(Session::begin(&key, &iv).unwrap().finish(), Ok(end_pad));
+}
+
+#[test]
+fn limits() {
+    let text = vec![0; 1_048_577];
+    let mut out = vec![0; 1_048_577];
+    let mut session = Session::begin(&[7; 32], &[9; 16]).unwrap();
+    assert_eq!(session.text(&text[..1_048_576], &mut out), Ok(()));
+    assert_eq!(session.text(&text[..1], &mut out), Err(Refusal::TooLong));
+    assert_eq!(page::seal(&[7; 32], &[9; 16], &[], &text, &mut out), Err(Refusal::TooLong));
+
+    let mut state = ZERO;
+    assert_eq!(run(&mut state, MOST_BLOCKS + 1, &mut vec![0; 16 * 65_539]), Err(Refusal::CountTooHigh));
+    assert_eq!(run(&mut state, MOST_BLOCKS, &mut vec![0; 16 * 65_538 - 1]), Err(Refusal::ShortOutput));
+    assert_eq!(state, ZERO);
+    assert_eq!(run(&mut state, MOST_BLOCKS, &mut vec![0; 16 * 65_538]), Ok(()));
+}
+
+#[test]
+fn kept_days() {
+    assert_eq!(keeping::kept(548, 0), Ok(true));
+    assert_eq!(keeping::kept(549, 0), Ok(false));
+    assert_eq!(keeping::kept(0, 73_048), Ok(true));
+    assert_eq!(keeping::kept(73_049, 0), Err(Refusal::DayRange));
+    assert_eq!(keeping::kept(0, 73_049), Err(Refusal::DayRange));
+}

@@ -1,0 +1,69 @@
+//! include/tulvekas.h.
+
+#[link(name = "tulvekas", kind = "static")]
+extern "C" {
+    pub fn tulvekas_seal(
+        key: *const u8,
+        key_len: usize,
+        iv: *const u8,
+        iv_len: usize,
+        ad: *const u8,
+        ad_len: usize,
+        text: *const u8,
+        text_len: usize,
+        out: *mut u8,
+        out_len: usize,
+        tag: *mut u8,
+        tag_len: usize,
+    ) -> u64;
+    pub fn tulvekas_open(
+        key: *const u8,
+        key_len: usize,
+        iv: *const u8,
+        iv_len: usize,
+        ad: *const u8,
+        ad_len: usize,
+        cipher: *const u8,
+        cipher_len: usize,
+        tag: *const u8,
+        tag_len: usize,
+        out: *mut u8,
+        out_len: usize,
+    ) -> u64;
+    pub fn tulvekas_begin(key: *const u8, key_len: usize, iv: *const u8, iv_len: usize, session: *mut u8, session_len: usize) -> u64;
+    pub fn tulvekas_data(session: *mut u8, session_len: usize, piece: *const u8, piece_len: usize) -> u64;
+    pub fn tulvekas_text(session: *mut u8, session_len: usize, piece: *const u8, piece_len: usize, out: *mut u8, out_len: usize) -> u64;
+    pub fn tulvekas_finish(session: *mut u8, session_len: usize, tag: *mut u8, tag_len: usize) -> u64;
+    pub fn tulvekas_park(session: *const u8, session_len: usize, block: *mut u8, block_len: usize) -> u64;
+    pub fn tulvekas_take_up(
+        key: *const u8,
+        key_len: usize,
+        block: *const u8,
+        block_len: usize,
+        session: *mut u8,
+        session_len: usize,
+        iv: *mut u8,
+        iv_len: usize,
+    ) -> u64;
+    pub fn tulvekas_keystream(
+        key: *const u8,
+        key_len: usize,
+        iv: *const u8,
+        iv_len: usize,
+        sealed: u64,
+        out: *mut u8,
+        out_len: usize,
+    ) -> u64;
+    pub fn tulvekas_trace(
+        state: *const u8,
+        state_len: usize,
+        key: *const u8,
+        key_len: usize,
+        count: u64,
+        iv: *mut u8,
+        iv_len: usize,
+        sealed: *mut u8,
+        sealed_len: usize,
+    ) -> u64;
+    pub fn tulvekas_kept(today: u64, departure: u64, kept: *mut u8, kept_len: usize) -> u64;
+}

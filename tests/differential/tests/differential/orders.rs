@@ -1,0 +1,365 @@
+//! Every combination of what a call refuses: the first in its order is the answer.
+
+use crate::tester::{Pair, Tester, SESSION_BYTES};
+use reference::cipher::{Key, Mode, State};
+use reference::parked::check;
+
+/// The number of the first condition that holds, else 0.
+fn first(conditions: &[(bool, u64)]) -> u64 {
+    conditions.iter().find(|(holds, _)| *holds).map_or(0, |(_, number)| *number)
+}
+
+const KEY_LENGTHS: [usize; 4] = [32, 0, 31, 33];
+const IV_LENGTHS: [usize; 4] = [16, 0, 15, 17];
+/// Buffers of 16 bytes to be written.
+const ROOMS_16: [usize; 4] = [16, 0, 15, 21];
+const SESSION_LENGTHS: [usize; 4] = [SESSION_BYTES, 0, SESSION_BYTES - 1, SESSION_BYTES + 1];
+
+/// Outputs for `len` bytes: exact, empty, one too short, longer.
+fn rooms(len: usize) -> [usize; 4] {
+    [len, 0, len - 1, len + 5]
+}
+
+#[test]
+fn order_of_seal() {
+    let mut t = Tester::new("order of seal");
+    let source = t.random.bytes(1_048_577);
+    for key_len in KEY_LENGTHS {
+        for iv_len in IV_LENGTHS {
+            for ad_len in [20, 65_536] {
+                for text_len in [37, 1_048_577] {
+                    for out_len in rooms(text_len) {
+                        for tag_len in ROOMS_16 {
+                            if !t.chosen() {
+                                continue;
+                            }
+                            let (key, iv) = (t.random.bytes(key_len), t.random.bytes(iv_len));
+                            let answer = t.seal(&key, &iv, &source[..ad_len], &source[..text_len], out_len, tag_len).0;
+                            let expected = first(&[
+                                (key_len != 32, 1),
+                                (iv_len != 16, 2),
+                                (ad_len > 65_535 || text_len > 1_048_576, 3),
+                                (out_len < text_len || tag_len < 16, 4),
+                            ]);
+                            t.expect("seal", answer, expected);
+                        }
+                    }
+                }
+            }
+        }
+    }
+    t.done();
+}
+
+#[test]
+fn order_of_open() {
+    let mut t = Tester::new("order of open");
+    let source = t.random.bytes(1_048_577);
+    let (key, iv) = (t.random.array::<32>(), t.random.array::<16>());
+    let (_, cipher, tag) = t.seal(&key, &iv, &source[..20], &source[..37], 37, 16);
+    for key_len in KEY_LENGTHS {
+        for iv_len in IV_LENGTHS {
+            for tag_len in [16, 0, 15, 17] {
+                for right in [true, false] {
+                    for ad_len in [20, 65_536] {
+                        for cipher_len in [37, 1_048_577] {
+                            for out_len in rooms(cipher_len) {
+                                if !t.chosen() {
+                                    continue;
+                                }
+                                let cut = |bytes: &[u8], len: usize| [bytes, &[0x55; 8]].concat()[..len].to_vec();
+                                let mut given = cut(&tag, tag_len);
+                                if !right && tag_len > 0 {
+                                    given[t.random.below(tag_len)] ^= 0x20;
+                                }
+                                let page = if cipher_len == 37 { &cipher[..] } else { &source[..cipher_len] };
+                                let answer = t.open(&cut(&key, key_len), &cut(&iv, iv_len), &source[..ad_len], page, &given, out_len).0;
+                                let expected = first(&[
+                                    (key_len != 32, 1),
+                                    (iv_len != 16, 2),
+                                    (tag_len != 16, 10),
+                                    (ad_len > 65_535 || cipher_len > 1_048_576, 3),
+                                    (out_len < cipher_len, 4),
+                                    (!right, 5),
+                                ]);
+                                t.expect("open", answer, expected);
+                            }
+                        }
+                    }
+                }
+            }
+        }
+    }
+    t.done();
+}
+
+/// Lengths of keys, IVs and tags over a wider range.
+#[test]
+fn lengths_of_fixed_buffers() {
+    let mut t = Tester::new("lengths of fixed buffers");
+    for len in (0..=80).chain([255, 256, 257, 288, 65_535, 65_536, 65_552, 65_568]) {
+        let bytes = t.random.bytes(len);
+        let (key, iv, text) = (t.random.array::<32>(), t.random.array::<16>(), t.random.bytes(23));
+        let (key_answer, iv_answer) = (if len == 32 { 0 } else { 1 }, if len == 16 { 0 } else { 2 });
+        let answers = [
+            (t.seal(&bytes, &iv, &[], &text, 23, 16).0, key_answer),
+            (t.seal(&key, &bytes, &[], &text, 23, 16).0, iv_answer),
+            (t.seal(&key, &iv, &[], &text, 23, len).0, if len < 16 { 4 } else { 0 }),
+            (t.seal(&key, &iv, &[], &text, len, 16).0, if len < 23 { 4 } else { 0 }),
+            (t.open(&bytes, &iv, &[], &text, &iv, 23).0, if len == 32 { 5 } else { 1 }),
+            (t.open(&key, &bytes, &[], &text, &iv, 23).0, if len == 16 { 5 } else { 2 }),
+            (t.open(&key, &iv, &[], &text, &bytes, 23).0, if len == 16 { 5 } else { 10 }),
+            (t.begin_in(&bytes, &iv, SESSION_BYTES).0, key_answer),
+            (t.begin_in(&key, &bytes, SESSION_BYTES).0, iv_answer),
+            (t.keystream(&bytes, &iv, 1, 40).0, key_answer),
+            (t.keystream(&key, &bytes, 0, 40).0, iv_answer),
+        ];
+        for (answer, expected) in answers {
+            t.expect("a call with a buffer of another length", answer, expected);
+        }
+    }
+    t.done();
+}
+
+#[test]
+fn order_of_begin() {
+    let mut t = Tester::new("order of begin");
+    for key_len in KEY_LENGTHS {
+        for iv_len in IV_LENGTHS {
+            for session_len in (0..=SESSION_BYTES + 20).chain([1_000]) {
+                if t.chosen() {
+                    let (key, iv) = (t.random.bytes(key_len), t.random.bytes(iv_len));
+                    let answer = t.begin_in(&key, &iv, session_len).0;
+                    let expected = first(&[(key_len != 32, 1), (iv_len != 16, 2), (session_len < SESSION_BYTES, 4)]);
+                    t.expect("begin", answer, expected);
+                }
+            }
+        }
+    }
+    t.done();
+}
+
+const DATA_LEN: usize = 21;
+const TEXT_LEN: usize = 39;
+
+/// One session in each of the phases data, text and finished.
+fn in_each_phase(t: &mut Tester, key: &[u8; 32], iv: &[u8; 16]) -> [Pair; 3] {
+    let (data, text) = (t.random.bytes(DATA_LEN), t.random.bytes(TEXT_LEN));
+    let mut in_data = t.begin(key, iv);
+    t.data(&mut in_data, &data);
+    let mut in_text = in_data.clone();
+    t.text(&mut in_text, &text);
+    let mut finished = in_text.clone();
+    t.finish(&mut finished);
+    [in_data, in_text, finished]
+}
+
+/// Parks, or requires that the session is finished: what a call has left behind.
+fn look_at(t: &mut Tester, session: &Pair) {
+    t.park_in(session, SESSION_BYTES, 512);
+}
+
+#[test]
+fn order_of_data() {
+    let mut t = Tester::new("order of data");
+    let source = t.random.bytes(65_536);
+    for _ in 0..t.rounds(10) {
+        let (key, iv) = (t.random.secret::<32>(), t.random.secret::<16>());
+        let sessions = in_each_phase(&mut t, &key, &iv);
+        for session_len in SESSION_LENGTHS {
+            for (phase, session) in sessions.iter().enumerate() {
+                for piece_len in [0, 1, 50, 65_535 - DATA_LEN, 65_536 - DATA_LEN, 65_536] {
+                    let mut session = session.clone();
+                    let answer = t.data_in(&mut session, session_len, &source[..piece_len]);
+                    let expected = first(&[(session_len != SESSION_BYTES, 8), (phase > 0, 7), (DATA_LEN + piece_len > 65_535, 3)]);
+                    t.expect("data", answer, expected);
+                    look_at(&mut t, &session);
+                }
+            }
+        }
+    }
+    t.done();
+}
+
+#[test]
+fn order_of_text() {
+    let mut t = Tester::new("order of text");
+    let source = t.random.bytes(1_048_577);
+    for round in 0..t.rounds(4) {
+        let (key, iv) = (t.random.secret::<32>(), t.random.secret::<16>());
+        let sessions = in_each_phase(&mut t, &key, &iv);
+        for session_len in SESSION_LENGTHS {
+            for (phase, session) in sessions.iter().enumerate() {
+                let so_far = [0, TEXT_LEN, TEXT_LEN][phase];
+                for piece_len in [0, 1, 50, 1_048_576 - so_far, 1_048_577 - so_far, 1_048_577] {
+                    if piece_len > 1_000 && round > 0 {
+                        continue;
+                    }
+                    let outs = if piece_len == 0 { vec![0, 5] } else { rooms(piece_len).to_vec() };
+                    for out_len in outs {
+                        let mut session = session.clone();
+                        let answer = t.text_in(&mut session, session_len, &source[..piece_len], out_len).0;
+                        let expected = first(&[
+                            (session_len != SESSION_BYTES, 8),
+                            (phase > 1, 7),
+                            (so_far + piece_len > 1_048_576, 3),
+                            (out_len < piece_len, 4),
+                        ]);
+                        t.expect("text", answer, expected);
+                        look_at(&mut t, &session);
+                    }
+                }
+            }
+        }
+    }
+    t.done();
+}
+
+#[test]
+fn order_of_finish_and_park() {
+    let mut t = Tester::new("order of finish and park");
+    for _ in 0..t.rounds(10) {
+        let (key, iv) = (t.random.secret::<32>(), t.random.secret::<16>());
+        let sessions = in_each_phase(&mut t, &key, &iv);
+        for session_len in (0..=SESSION_BYTES + 10).chain([300, 512, 1_000]) {
+            for (phase, session) in sessions.iter().enumerate() {
+                for tag_len in ROOMS_16 {
+                    let mut session = session.clone();
+                    let answer = t.finish_in(&mut session, session_len, tag_len).0;
+                    t.expect("finish", answer, first(&[(session_len != SESSION_BYTES, 8), (phase > 1, 7), (tag_len < 16, 4)]));
+                    look_at(&mut t, &session);
+                }
+                for block_len in [512, 0, 511, 513, 600] {
+                    let answer = t.park_in(session, session_len, block_len).0;
+                    t.expect("park", answer, first(&[(session_len != SESSION_BYTES, 8), (phase > 1, 7), (block_len < 512, 4)]));
+                }
+            }
+        }
+    }
+    t.done();
+}
+
+#[test]
+fn order_of_take_up() {
+    let mut t = Tester::new("order of take up");
+    let (key, iv) = (t.random.array::<32>(), t.random.array::<16>());
+    let [_, session, _] = in_each_phase(&mut t, &key, &iv);
+    let block = t.park(&session);
+    let checked = |mut block: [u8; 512]| {
+        let sum = check(&block);
+        block[508..].copy_from_slice(&sum.to_le_bytes());
+        block
+    };
+    let mut plain = State::start(&Key::new(&key).unwrap(), &iv, Mode::Plain);
+    for _ in 0..2 + TEXT_LEN.div_ceil(16) {
+        plain.step();
+    }
+    let mut plain_block = block;
+    plain_block[16..128].copy_from_slice(&plain.to_bytes());
+    let (mut foreign, mut torn) = (block, block);
+    foreign[100] ^= 1;
+    torn[300] ^= 1;
+    let (plain_block, foreign, torn) = (checked(plain_block), checked(foreign), checked(torn));
+    let mut torn_and_foreign = foreign;
+    torn_and_foreign[13] = 1;
+    let blocks: [(Vec<u8>, u64); 9] = [
+        (block.to_vec(), 0),
+        (plain_block.to_vec(), 6),
+        (foreign.to_vec(), 6),
+        (torn.to_vec(), 8),
+        (checked(torn_and_foreign).to_vec(), 8),
+        (block[..511].to_vec(), 8),
+        ([&block[..], &[0]].concat(), 8),
+        ([&foreign[..], &[0]].concat(), 8),
+        (Vec::new(), 8),
+    ];
+    for key_len in KEY_LENGTHS {
+        for (block, of_block) in &blocks {
+            for session_len in [SESSION_BYTES, 0, 1, SESSION_BYTES - 1, SESSION_BYTES + 1, 300] {
+                for iv_len in ROOMS_16 {
+                    let key = &[&key[..], &[0]].concat()[..key_len];
+                    let answer = t.take_up_in(key, block, session_len, iv_len).0;
+                    let expected = first(&[
+                        (key_len != 32, 1),
+                        (*of_block == 8, 8),
+                        (*of_block == 6, 6),
+                        (session_len < SESSION_BYTES || iv_len < 16, 4),
+                    ]);
+                    t.expect("take_up", answer, expected);
+                }
+            }
+        }
+    }
+    t.done();
+}
+
+#[test]
+fn order_of_keystream() {
+    let mut t = Tester::new("order of keystream");
+    for key_len in KEY_LENGTHS {
+        for iv_len in IV_LENGTHS {
+            for sealed in [0, 1] {
+                for out_len in [0, 1, 15, 16, 40, 16 * 65_538 + 15, 16 * 65_539] {
+                    let (key, iv) = (t.random.bytes(key_len), t.random.bytes(iv_len));
+                    let answer = t.keystream(&key, &iv, sealed, out_len).0;
+                    let expected = first(&[(key_len != 32, 1), (iv_len != 16, 2), (out_len / 16 > 65_538, 9)]);
+                    t.expect("keystream", answer, expected);
+                }
+            }
+        }
+    }
+    t.done();
+}
+
+#[test]
+fn order_of_trace() {
+    let mut t = Tester::new("order of trace");
+    let (key, iv) = (t.random.array::<32>(), t.random.array::<16>());
+    for mode in [Mode::Plain, Mode::Sealed] {
+        let mut state = State::start(&Key::new(&key).unwrap(), &iv, mode);
+        for _ in 0..5 {
+            state.step();
+        }
+        let ours = state.to_bytes();
+        let mut foreign = ours;
+        foreign[77] ^= 0x40;
+        for key_len in KEY_LENGTHS {
+            for state_len in [112, 0, 111, 113] {
+                for count in [5, 4, 6, 65_539, 1 << 32 | 5, u64::MAX] {
+                    for state in [ours, foreign] {
+                        for iv_len in ROOMS_16 {
+                            for sealed_len in [1, 0, 2] {
+                                let key = &[&key[..], &[0]].concat()[..key_len];
+                                let cut = &[&state[..], &[0]].concat()[..state_len];
+                                let answer = t.trace_in(cut, key, count, iv_len, sealed_len).0;
+                                let expected = first(&[
+                                    (key_len != 32, 1),
+                                    (state_len != 112, 8),
+                                    (count > 65_538, 9),
+                                    (count != 5 || state != ours, 6),
+                                    (iv_len < 16 || sealed_len < 1, 4),
+                                ]);
+                                t.expect("trace", answer, expected);
+                            }
+                        }
+                    }
+                }
+            }
+        }
+    }
+    t.done();
+}
+
+#[test]
+fn order_of_kept() {
+    let mut t = Tester::new("order of kept");
+    for today in [0, 548, 549, 73_048, 73_049, u64::MAX] {
+        for departure in [0, 548, 549, 73_048, 73_049, u64::MAX] {
+            for kept_len in [0, 1, 2] {
+                let answer = t.kept(today, departure, kept_len).0;
+                t.expect("kept", answer, first(&[(today > 73_048 || departure > 73_048, 12), (kept_len < 1, 4)]));
+            }
+        }
+    }
+    t.done();
+}

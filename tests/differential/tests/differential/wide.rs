@@ -1,0 +1,173 @@
+//! Lengths over 2^32, which a number of 32 bits would confuse with short ones. The buffers are zeros that the system lends on demand;
+//! no call has a reason to touch more of them than their front.
+
+#![cfg(target_pointer_width = "64")]
+
+use crate::library::*;
+use crate::tester::{Tester, SESSION_BYTES};
+use reference::calls;
+use std::alloc::{alloc_zeroed, dealloc, Layout};
+
+const WIDE: usize = 1 << 32;
+/// The longest length used.
+const MOST: usize = WIDE + 2_048;
+/// What is looked at behind the part written, and at the very end.
+const SEEN: usize = 1 << 16;
+
+/// Zeros that no test has written are never touched, hence never claimed.
+struct Zeros(*mut u8);
+
+impl Zeros {
+    fn layout() -> Layout {
+        Layout::array::<u8>(MOST).unwrap()
+    }
+
+    fn new() -> Option<Zeros> {
+        let bytes = unsafe { alloc_zeroed(Zeros::layout()) };
+        (!bytes.is_null()).then_some(Zeros(bytes))
+    }
+
+    /// Takes the front and requires zeros behind it and at the end; the front is zero again then.
+    fn take_front(&mut self, t: &Tester, call: &str, len: usize) -> Vec<u8> {
+        let bytes = unsafe { std::slice::from_raw_parts_mut(self.0, MOST) };
+        let front = bytes[..len].to_vec();
+        bytes[..len].fill(0);
+        if bytes[len..SEEN].iter().chain(&bytes[MOST - SEEN..]).any(|byte| *byte != 0) {
+            t.fail(call, "a byte beyond what is written has changed".into());
+        }
+        front
+    }
+}
+
+impl Drop for Zeros {
+    fn drop(&mut self) {
+        unsafe { dealloc(self.0, Zeros::layout()) }
+    }
+}
+
+fn answered(t: &mut Tester, call: &str, answer: u64, expected: u64) {
+    t.count(answer);
+    if answer != expected {
+        t.fail(call, format!("answer {answer}, expected {expected}"));
+    }
+}
+
+#[test]
+fn lengths_over_32_bits() {
+    let mut t = Tester::new("lengths over 32 bits");
+    if t.checked() {
+        println!("lengths over 32 bits: left out, a memory checker would claim every byte");
+        return;
+    }
+    let (Some(read), Some(mut written)) = (Zeros::new(), Zeros::new()) else {
+        println!("lengths over 32 bits: left out, no room for two buffers of 4 GiB");
+        return;
+    };
+    let zeros = read.0.cast_const();
+    let (key, iv) = (t.random.array::<32>(), t.random.array::<16>());
+    let (ad, text) = (t.random.bytes(19), t.random.bytes(53));
+    let (k, v, a, x) = (key.as_ptr(), iv.as_ptr(), ad.as_ptr(), text.as_ptr());
+    let (mut cipher, mut tag) = (vec![0; 53], vec![0; 16]);
+    calls::seal(&key, &iv, &ad, &text, &mut cipher, &mut tag).unwrap();
+    let w = written.0;
+    let mut other = [0; 1_024];
+    let o = other.as_mut_ptr();
+
+    let mut check = |call: &str, answer: u64, expected: u64| {
+        answered(&mut t, call, answer, expected);
+    };
+    unsafe {
+        check("seal", tulvekas_seal(zeros, WIDE + 32, v, 16, a, 19, x, 53, o, 53, w, 16), 1);
+        check("seal", tulvekas_seal(k, 32, zeros, WIDE + 16, a, 19, x, 53, o, 53, w, 16), 2);
+        check("seal", tulvekas_seal(k, 32, v, 16, zeros, WIDE + 5, x, 53, o, 53, w, 16), 3);
+        check("seal", tulvekas_seal(k, 32, v, 16, a, 19, zeros, WIDE + 5, w, WIDE + 5, o, 16), 3);
+        check("seal", tulvekas_seal(k, 32, v, 16, a, 19, zeros, WIDE + 5, w, 5, o, 16), 3);
+        check("open", tulvekas_open(zeros, WIDE + 32, v, 16, a, 19, x, 53, v, 16, w, 53), 1);
+        check("open", tulvekas_open(k, 32, zeros, WIDE + 16, a, 19, x, 53, v, 16, w, 53), 2);
+        check("open", tulvekas_open(k, 32, v, 16, a, 19, x, 53, zeros, WIDE + 16, w, 53), 10);
+        check("open", tulvekas_open(k, 32, v, 16, zeros, WIDE + 5, x, 53, v, 16, w, 53), 3);
+        check("open", tulvekas_open(k, 32, v, 16, a, 19, zeros, WIDE + 5, v, 16, w, WIDE + 5), 3);
+        check("begin", tulvekas_begin(zeros, WIDE + 32, v, 16, w, SESSION_BYTES), 1);
+        check("begin", tulvekas_begin(k, 32, zeros, WIDE + 16, w, SESSION_BYTES), 2);
+        check("data", tulvekas_data(w, WIDE + SESSION_BYTES, a, 19), 8);
+        check("text", tulvekas_text(w, WIDE + SESSION_BYTES, x, 53, o, 53), 8);
+        check("finish", tulvekas_finish(w, WIDE + SESSION_BYTES, o, 16), 8);
+        check("park", tulvekas_park(zeros, WIDE + SESSION_BYTES, w, 512), 8);
+        check("take_up", tulvekas_take_up(zeros, WIDE + 32, zeros, 512, w, SESSION_BYTES, o, 16), 1);
+        check("take_up", tulvekas_take_up(k, 32, zeros, WIDE + 512, w, SESSION_BYTES, o, 16), 8);
+        check("keystream", tulvekas_keystream(zeros, WIDE + 32, v, 16, 1, w, 16), 1);
+        check("keystream", tulvekas_keystream(k, 32, zeros, WIDE + 16, 1, w, 16), 2);
+        check("keystream", tulvekas_keystream(k, 32, v, 16, 1, w, WIDE + 32), 9);
+        check("trace", tulvekas_trace(zeros, 112, zeros, WIDE + 32, 0, w, 16, o, 1), 1);
+        check("trace", tulvekas_trace(zeros, WIDE + 112, k, 32, 0, w, 16, o, 1), 8);
+    }
+    written.take_front(&t, "a refused call", 0);
+    if other != [0; 1_024] {
+        t.fail("a refused call", "a lent byte has changed".into());
+    }
+    accepted(&mut t, &mut written, [&key, &iv, &ad, &text, &cipher, &tag]);
+    refused_pieces(&mut t, zeros, w, &key, &iv);
+    t.done();
+}
+
+/// Outputs of more than 2^32 bytes: what must be written fits, and nothing behind it changes.
+fn accepted(t: &mut Tester, written: &mut Zeros, page: [&[u8]; 6]) {
+    let [key, iv, ad, text, cipher, tag] = page;
+    let (k, v, w) = (key.as_ptr(), iv.as_ptr(), written.0);
+    let mut other = [0; 1_024];
+    let o = other.as_mut_ptr();
+    let mut session = [0; SESSION_BYTES];
+    let s = session.as_mut_ptr();
+    let mut check = |t: &mut Tester, call: &str, answer: u64, expected: &[u8]| {
+        answered(t, call, answer, 0);
+        let front = written.take_front(t, call, expected.len());
+        if front != expected {
+            t.fail(call, "another output than expected".into());
+        }
+    };
+    let mut pair = t.begin(key, iv);
+    unsafe {
+        let (a, x, c, g) = (ad.as_ptr(), text.as_ptr(), cipher.as_ptr(), tag.as_ptr());
+        check(t, "seal", tulvekas_seal(k, 32, v, 16, a, ad.len(), x, text.len(), w, WIDE + 3, o, 16), cipher);
+        check(t, "seal", tulvekas_seal(k, 32, v, 16, a, ad.len(), x, text.len(), o, 53, w, WIDE + 3), tag);
+        check(t, "open", tulvekas_open(k, 32, v, 16, a, ad.len(), c, cipher.len(), g, 16, w, WIDE), text);
+        check(t, "begin", tulvekas_begin(k, 32, v, 16, w, WIDE + 3), &pair.theirs);
+        t.data(&mut pair, ad);
+        session.copy_from_slice(&pair.theirs);
+        check(t, "text", tulvekas_text(s, SESSION_BYTES, x, text.len(), w, WIDE + 3), cipher);
+        t.text(&mut pair, text);
+        let block = t.park(&pair);
+        check(t, "park", tulvekas_park(s, SESSION_BYTES, w, WIDE + 3), &block);
+        let b = block.as_ptr();
+        check(t, "take_up", tulvekas_take_up(k, 32, b, 512, w, WIDE + 3, o, 16), &pair.theirs);
+        check(t, "take_up", tulvekas_take_up(k, 32, b, 512, o, SESSION_BYTES, w, WIDE + 3), iv);
+        let count = 2 + text.len().div_ceil(16) as u64;
+        check(t, "trace", tulvekas_trace(b.add(16), 112, k, 32, count, w, WIDE + 3, o, 1), iv);
+        check(t, "trace", tulvekas_trace(b.add(16), 112, k, 32, count, o, 16, w, WIDE), &[1]);
+        check(t, "finish", tulvekas_finish(s, SESSION_BYTES, w, WIDE + 3), tag);
+        check(t, "kept", tulvekas_kept(5, 5, w, WIDE), &[1]);
+    }
+}
+
+/// Pieces of more than 2^32 bytes are too long in every session, and it goes on as it was.
+fn refused_pieces(t: &mut Tester, zeros: *const u8, w: *mut u8, key: &[u8], iv: &[u8]) {
+    for (data_len, text_len) in [(0, 0), (7, 0), (7, 9)] {
+        let mut pair = t.begin(key, iv);
+        let (data, text) = (t.random.bytes(data_len), t.random.bytes(text_len));
+        t.data(&mut pair, &data);
+        if text_len > 0 {
+            t.text(&mut pair, &text);
+        }
+        let mut session = pair.theirs;
+        let s = session.as_mut_ptr();
+        for piece_len in [WIDE, WIDE + 1, WIDE + 16, MOST] {
+            let of_data = unsafe { tulvekas_data(s, SESSION_BYTES, zeros, piece_len) };
+            let of_text = unsafe { tulvekas_text(s, SESSION_BYTES, zeros, piece_len, w, piece_len) };
+            answered(t, "data", of_data, if text_len > 0 { 7 } else { 3 });
+            answered(t, "text", of_text, 3);
+        }
+        if session != pair.theirs {
+            t.fail("data or text", "a refused piece has changed the session".into());
+        }
+    }
+}

@@ -1,0 +1,54 @@
+//! What a benchmark calls gives what the modules give.
+
+use reference::cipher::{iv, Key, Mode, State};
+use reference::ffi::{reference_keystream, reference_seal, reference_start, reference_take_up, reference_trace};
+use reference::session::Session;
+use reference::{page, parked};
+
+const KEY: [u8; 32] = [0x5a; 32];
+const IV: [u8; 16] = [0xa5; 16];
+
+#[test]
+fn keystream_and_start() {
+    for (sealed, mode) in [(0, Mode::Plain), (1, Mode::Sealed)] {
+        let mut state = State::start(&Key::new(&KEY).unwrap(), &iv(&IV).unwrap(), mode);
+        let mut started = [0; 112];
+        assert_eq!(unsafe { reference_start(KEY.as_ptr(), IV.as_ptr(), sealed, started.as_mut_ptr()) }, 0);
+        assert_eq!(started, state.to_bytes());
+
+        let mut out = [0; 16 * 20];
+        assert_eq!(unsafe { reference_keystream(KEY.as_ptr(), IV.as_ptr(), sealed, out.as_mut_ptr(), 20) }, 0);
+        for block in out.chunks(16) {
+            assert_eq!(block, state.step());
+        }
+
+        let (mut found, mut found_mode) = ([0; 16], 9);
+        let bytes = state.to_bytes();
+        assert_eq!(unsafe { reference_trace(bytes.as_ptr(), KEY.as_ptr(), 20, found.as_mut_ptr(), &mut found_mode) }, 0);
+        assert_eq!((found, u64::from(found_mode)), (IV, sealed));
+        assert_eq!(unsafe { reference_trace(bytes.as_ptr(), KEY.as_ptr(), 19, found.as_mut_ptr(), &mut found_mode) }, 6);
+        assert_eq!(unsafe { reference_trace(bytes.as_ptr(), KEY.as_ptr(), 65_539, found.as_mut_ptr(), &mut found_mode) }, 9);
+    }
+    assert_eq!(unsafe { reference_keystream(KEY.as_ptr(), IV.as_ptr(), 0, vec![0; 16 * 65_539].as_mut_ptr(), 65_539) }, 9);
+}
+
+#[test]
+fn seal_and_take_up() {
+    let (ad, text) = ([1; 21], [2; 39]);
+    let (mut cipher, mut tag) = ([0; 39], [0; 16]);
+    let (a, t) = (ad.as_ptr(), text.as_ptr());
+    let answer = unsafe { reference_seal(KEY.as_ptr(), IV.as_ptr(), a, 21, t, 39, cipher.as_mut_ptr(), tag.as_mut_ptr()) };
+    assert_eq!(answer, 0);
+    let mut whole = [0; 39];
+    assert_eq!(page::seal(&KEY, &IV, &ad, &text, &mut whole), Ok(tag));
+    assert_eq!(cipher, whole);
+
+    let mut session = Session::begin(&KEY, &IV).unwrap();
+    session.text(&text, &mut whole).unwrap();
+    let (mut block, mut found) = ([0; 512], [0; 16]);
+    parked::park(&session, &mut block).unwrap();
+    assert_eq!(unsafe { reference_take_up(KEY.as_ptr(), block.as_ptr(), found.as_mut_ptr()) }, 0);
+    assert_eq!(found, IV);
+    block[1] = 1;
+    assert_eq!(unsafe { reference_take_up(KEY.as_ptr(), block.as_ptr(), found.as_mut_ptr()) }, 8);
+}
