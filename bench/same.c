@@ -134,11 +134,11 @@ static inline u32 turn(u32 w)
     return w >> 8 | w << 24;
 }
 
-/* 2a + 3b + c + d is 2(a + b) + b + c + d. */
+/* 2a + 3b + c + d is 2(a + b) + b + (c + d), and c + d is a + b two places on. */
 static inline u32 mixed(u32 w)
 {
-    u32 b = turn(w), c = turn(b), d = turn(c);
-    return times_x4(w ^ b) ^ b ^ c ^ d;
+    u32 b = turn(w), s = w ^ b;
+    return times_x4(s) ^ b ^ turn(turn(s));
 }
 
 /* The matrix of 14 11 13 9 is that of 2 3 1 1 times that of 5 0 4 0. */

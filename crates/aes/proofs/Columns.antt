@@ -77,7 +77,7 @@ module _ (w : ℕ) (h : w < 2 ^ 32) where
 
 module _ (a b c d : ℕ) where
   mixed-four : let s = a ∷ b ∷ c ∷ d ∷ [] in
-      xors (xors (xors (map xtime (xors s (turned s))) (turned s)) (turned (turned s))) (turned (turned (turned s))) ≡ mixColumns s
+      xors (xors (map xtime (xors s (turned s))) (turned s)) (turned (turned (xors s (turned s)))) ≡ mixColumns s
   unfolding xors mixBy
   mixed-four = four (mixed-dot a b c d) (mixed-dot b c d a) (mixed-dot c d a b) (mixed-dot d a b c)
 
@@ -85,16 +85,14 @@ module _ (a b c d : ℕ) where
   unfolding xors mixBy
   unmixed-four = four (unmixed-dot a b c d) (unmixed-dot b c d a) (unmixed-dot c d a b) (unmixed-dot d a b c)
 
--- b, c and d are w turned once, twice and three times, and t is w ⊕ b doubled
-pub is-mixed : (w b c d t : ℕ) → little 4 b ≡ turned (little 4 w) → little 4 c ≡ turned (little 4 b) → little 4 d ≡ turned (little 4 c)
-    → little 4 t ≡ map xtime (little 4 (w ⊕ b)) → little 4 (t ⊕ b ⊕ c ⊕ d) ≡ mixColumns (little 4 w)
+-- b is w turned, and of w ⊕ b, t is the double, and d is it turned twice
+pub is-mixed : (w b t c d : ℕ) → little 4 b ≡ turned (little 4 w) → little 4 t ≡ map xtime (little 4 (w ⊕ b)) → little 4 c ≡ turned (little 4 (w ⊕ b))
+    → little 4 d ≡ turned (little 4 c) → little 4 (t ⊕ b ⊕ d) ≡ mixColumns (little 4 w)
 unfolding little
-is-mixed w b c d t pb pc pd pt =
-    let qc = pc ∙ ap turned pb in
-    let qd = pd ∙ ap turned qc in
-    let qt = pt ∙ ap (map xtime) (little-xor 4 w b ∙ ap (xors (little 4 w)) pb) in
-    little-xor 4 (t ⊕ b ⊕ c) d
-    ∙ ap₂ xors (little-xor 4 (t ⊕ b) c ∙ ap₂ xors (little-xor 4 t b ∙ ap₂ xors qt pb) qc) qd
+is-mixed w b t c d pb pt pc pd =
+    let q = little-xor 4 w b ∙ ap (xors (little 4 w)) pb in
+    little-xor 4 (t ⊕ b) d
+    ∙ ap₂ xors (little-xor 4 t b ∙ ap₂ xors (pt ∙ ap (map xtime) q) pb) (pd ∙ ap turned (pc ∙ ap turned q))
     ∙ mixed-four (w % 256) (w / 256 % 256) (w / 256 / 256 % 256) (w / 256 / 256 / 256 % 256)
 
 -- c is w turned twice, u is w ⊕ c doubled twice, and m is w ⊕ u mixed

@@ -107,7 +107,7 @@ module _ (k0 k1 k2 k3 : ℕ) where
 -- ---- a column as the code mixes it
 
 module _ (a b c d : ℕ) where
-  pub mixed-dot : xtime (a ⊕ b) ⊕ b ⊕ c ⊕ d ≡ dot 2 3 1 1 a b c d
+  pub mixed-dot : xtime (a ⊕ b) ⊕ b ⊕ (c ⊕ d) ≡ dot 2 3 1 1 a b c d
   unfolding dot gmul mulBits
   mixed-dot = simp (products, xor)
 

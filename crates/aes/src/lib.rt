@@ -70,14 +70,13 @@ fn turn(w: u32) -> u32
     w / 0x100 + w % 0x100 * 0x1000000
 }
 
-// MixColumns of one column: 2a + 3b + c + d is 2(a + b) + b + c + d.
+// MixColumns of one column: 2a + 3b + c + d is 2(a + b) + b + (c + d), and c + d is a + b two places on.
 fn mixed(w: u32) -> u32
     ensures { λ r. ⌜ little 4 r ≡ mixColumns (little 4 w) ⌝ }
 {
     let b = turn(w);
-    let c = turn(b);
-    let d = turn(c);
-    times_x4(w ^ b) ^ b ^ c ^ d
+    let s = w ^ b;
+    times_x4(s) ^ b ^ turn(turn(s))
 }
 
 // Its inverse, as MixColumns after a + 4(a + c): the matrix of 14 11 13 9 is that of 2 3 1 1 times that of 5 0 4 0.
