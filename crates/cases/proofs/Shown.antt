@@ -26,8 +26,7 @@ use Rattle.page.proofs.Ciphertext.{stream-block}
 use Rattle.retention.proofs.Cases.{kept-at-548, not-kept-at-549}
 use Rattle.cipher.specs.Step.{T1, T2, sigma, z, step}
 use Rattle.cipher.specs.Run.{move, made, moves, zs}
-use Rattle.start.specs.declared.Mode.{Mode}
-use Rattle.start.specs.Start.{mode-cells, load}
+use Rattle.start.specs.Start.{Mode, mode-cells, load}
 use Rattle.start.proofs.Undo.{mode-row, high}
 use Rattle.cases.specs.Starred.{All, starred}
 

@@ -9,17 +9,15 @@ use Rattle.scope.specs.Limits.{last-day}
 use Rattle.words.specs.Bytes.{Row, IsBlock, littles}
 use Rattle.words.specs.Sums.{_⊞_}
 use Rattle.lfsr.specs.Cells.{alpha, alpha⁻¹, beta, beta⁻¹}
-use Rattle.lfsr.specs.Clock.{snowV, clock}
+use Rattle.lfsr.specs.Clock.{snowV, clock, Lfsr}
 use Rattle.lfsr.specs.Unclock.{solvedV, unclock}
-use Rattle.lfsr.specs.declared.Lfsr.{Lfsr}
 use Rattle.aes.specs.Round.{round}
 use Rattle.ghash.specs.Hash.{_•_}
 use Rattle.cipher.specs.Step.{z}
 use Rattle.cipher.specs.Run.{forward, zs}
-use Rattle.start.specs.declared.Mode.{Mode}
-use Rattle.start.specs.Start.{load, blank}
+use Rattle.start.specs.Start.{Mode, load, blank}
 use Rattle.page.specs.Page.{keystream, page-tag}
-use Rattle.retention.specs.Keeping.{Answer.decided, keeping}
+use Rattle.retention.specs.Keeping.{Verdict.decided, keeping}
 
 -- every statement of a list holds
 abbrev pub All : List (Type 0) → Type 0

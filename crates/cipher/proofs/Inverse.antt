@@ -13,13 +13,11 @@ use Rattle.words.proofs.Bytes.{littles-long, littles-below}
 use Rattle.words.proofs.Sums.{⊞-block, ⊟-block, ⊟-⊞, ⊞-⊟, xors-block, xors-back}
 use Rattle.aes.specs.Round.{gathered, round, unround}
 use Rattle.aes.proofs.Rounds.{gathered-row, round-block, unround-block, unround-round, round-unround}
-use Rattle.lfsr.specs.declared.Lfsr.{Lfsr}
-use Rattle.lfsr.specs.Clock.{snowV, clocks}
-use Rattle.lfsr.specs.Clock as clock
+use Rattle.lfsr.specs.Clock.{Lfsr, snowV, clocks, IsLfsr}
 use Rattle.lfsr.specs.Unclock.{solvedV, unclocks}
 use Rattle.lfsr.proofs.Back.{good-clocks, good-unclocks, unclocks-clocks, clocks-unclocks}
 use Rattle.lfsr.proofs.SnowV.{lawful-v, moved-b}
-use Rattle.cipher.specs.Registers.{Registers, Good}
+use Rattle.cipher.specs.Registers.{Registers, IsRegisters}
 use Rattle.cipher.specs.Step.{sigma, T1, T2, z, step}
 use Rattle.cipher.specs.Back.{back, z-before}
 
@@ -45,15 +43,15 @@ sigma-sigma x h = tab-all 16 x (h .long)
 
 -- ---- the step and the step back
 
-module _ (s : Registers) (g : Good s) where
+module _ (s : Registers) (g : IsRegisters s) where
   old : Lfsr
   old = unclocks snowV solvedV 8 (s .lfsr)
 
-  old-good : clock.Good old
+  old-good : IsLfsr old
   unfolding old
   old-good = good-unclocks lawful-v 8 (s .lfsr) (g .cells)
 
-  new-good : clock.Good (clocks snowV 8 (s .lfsr))
+  new-good : IsLfsr (clocks snowV 8 (s .lfsr))
   new-good = good-clocks lawful-v 8 (s .lfsr) (g .cells)
 
   t1 : IsBlock (T1 s)
@@ -76,7 +74,7 @@ module _ (s : Registers) (g : Good s) where
   unfolding z
   z-block = xors-block (s .r1 ⊞ T1 s) (s .r2) (⊞-block (s .r1) (T1 s) (g .in-r1) t1) (g .in-r2)
 
-  pub step-good : Good (step s)
+  pub step-good : IsRegisters (step s)
   unfolding step w
   step-good =
       record {
@@ -115,7 +113,7 @@ module _ (s : Registers) (g : Good s) where
   old-t2 : IsBlock (littles 2 (take 8 (old .a)))
   old-t2 = low-block (old-good .in-a)
 
-  pub back-good : Good (back s)
+  pub back-good : IsRegisters (back s)
   unfolding back off old
   back-good =
       record {
@@ -143,9 +141,5 @@ module _ (s : Registers) (g : Good s) where
       ∙ ap (λ (l : List ℕ). xors (s .r1 ⊞ littles 2 l) (s .r2)) (moved-b (s .lfsr) (g .cells))
 
 -- from the other side
-pub z-before-is : (s : Registers) → Good s → z-before s ≡ z (back s)
+pub z-before-is : (s : Registers) → IsRegisters s → z-before s ≡ z (back s)
 z-before-is s g = ap z-before (sym (step-back s g)) ∙ z-before-step (back s) (back-good s g)
-
--- a state has only one before it
-pub step-one : (s t : Registers) → Good s → Good t → step s ≡ step t → s ≡ t
-step-one s t g h e = sym (back-step s g) ∙ ap back e ∙ back-step t h

@@ -5,3 +5,4 @@ pub mod Typed
 pub mod Running
 pub mod LentAgain
 pub mod FrontPart
+pub mod StepsBack

@@ -7,40 +7,40 @@ use Prim.Native.Nat.{ℕ, zero, suc, _+_, _*_}
 use native.Mathlib.Omega.{arith}
 use native.Mathlib.Nat.{add-zero, add-suc}
 use lib.ListN.{length, length-append}
-use Rattle.words.specs.Bytes.{IsBlock}
-use Rattle.words.specs.Bytes.{joined}
-use Rattle.cipher.specs.Registers.{Registers, Good}
+use Rattle.words.specs.Bytes.{IsBlock, joined}
+use Rattle.cipher.specs.Registers.{Registers, IsRegisters}
 use Rattle.cipher.specs.Step.{z}
 use Rattle.cipher.specs.Back.{back}
 use Rattle.cipher.specs.Run.{move, made, moves, zs, blocks}
+use Rattle.cipher.specs.Laws.{reversed}
 use Rattle.cipher.proofs.Inverse.{step-good, back-good, back-step, step-back, z-block}
 
 -- ---- one step
 
-pub move-good : (d : Bool) (s : Registers) → Good s → Good (move d s)
+pub move-good : (d : Bool) (s : Registers) → IsRegisters s → IsRegisters (move d s)
 unfolding move
 move-good true s g = back-good s g
 move-good false s g = step-good s g
 
-pub move-undone : (d : Bool) (s : Registers) → Good s → move (not d) (move d s) ≡ s
+pub move-undone : (d : Bool) (s : Registers) → IsRegisters s → move (not d) (move d s) ≡ s
 unfolding move
 move-undone true s g = step-back s g
 move-undone false s g = back-step s g
 
-pub made-block : (d : Bool) (s : Registers) → Good s → IsBlock (made d s)
+pub made-block : (d : Bool) (s : Registers) → IsRegisters s → IsBlock (made d s)
 unfolding made
 made-block true s g = z-block (back s) (back-good s g)
 made-block false s g = z-block s g
 
 -- the z of undoing a step is the step's
-pub made-again : (d : Bool) (s : Registers) → Good s → made (not d) (move d s) ≡ made d s
+pub made-again : (d : Bool) (s : Registers) → IsRegisters s → made (not d) (move d s) ≡ made d s
 unfolding made move
 made-again true s g = refl
 made-again false s g = ap z (back-step s g)
 
 -- ---- n steps
 
-pub moves-good : (d : Bool) (n : ℕ) (s : Registers) → Good s → Good (moves d n s)
+pub moves-good : (d : Bool) (n : ℕ) (s : Registers) → IsRegisters s → IsRegisters (moves d n s)
 unfolding moves
 moves-good d zero s g = g
 moves-good d (suc n) s g = move-good d (moves d n s) (moves-good d n s g)
@@ -56,7 +56,7 @@ unfolding moves
 moves-first d zero s = refl
 moves-first d (suc n) s = ap (move d) (moves-first d n s)
 
-pub moves-undone : (d : Bool) (n : ℕ) (s : Registers) → Good s → moves (not d) n (moves d n s) ≡ s
+pub moves-undone : (d : Bool) (n : ℕ) (s : Registers) → IsRegisters s → moves (not d) n (moves d n s) ≡ s
 unfolding moves
 moves-undone d zero s g = refl
 moves-undone d (suc n) s g =
@@ -72,16 +72,11 @@ zs-first d zero s = refl
 zs-first d (suc n) s =
     ap₂ (λ (l : List (List ℕ)) (t : Registers). l ++ (made d t ∷ [])) (zs-first d n s) (moves-first d n s)
 
--- the blocks in the opposite order
-abbrev pub turned : List (List ℕ) → List (List ℕ)
-turned [] = []
-turned (x ∷ xs) = turned xs ++ (x ∷ [])
+reversed-last : (xs : List (List ℕ)) (x : List ℕ) → reversed (xs ++ (x ∷ [])) ≡ x ∷ reversed xs
+reversed-last [] x = refl
+reversed-last (y ∷ xs) x = ap (λ (l : List (List ℕ)). l ++ (y ∷ [])) (reversed-last xs x)
 
-turned-last : (xs : List (List ℕ)) (x : List ℕ) → turned (xs ++ (x ∷ [])) ≡ x ∷ turned xs
-turned-last [] x = refl
-turned-last (y ∷ xs) x = ap (λ (l : List (List ℕ)). l ++ (y ∷ [])) (turned-last xs x)
-
-pub zs-undone : (d : Bool) (n : ℕ) (s : Registers) → Good s → zs (not d) n (moves d n s) ≡ turned (zs d n s)
+pub zs-undone : (d : Bool) (n : ℕ) (s : Registers) → IsRegisters s → zs (not d) n (moves d n s) ≡ reversed (zs d n s)
 unfolding zs moves
 zs-undone d zero s g = refl
 zs-undone d (suc n) s g =
@@ -90,7 +85,7 @@ zs-undone d (suc n) s g =
     zs-first (not d) n (move d (moves d n s))
     ∙ ap₂ (λ (x : List ℕ) (l : List (List ℕ)). x ∷ l) (made-again d (moves d n s) h)
     (ap (zs (not d) n) (move-undone d (moves d n s) h) ∙ zs-undone d n s g)
-    ∙ sym (turned-last (zs d n s) (made d (moves d n s)))
+    ∙ sym (reversed-last (zs d n s) (made d (moves d n s)))
 
 joined-append : (xs ys : List (List ℕ)) → joined (xs ++ ys) ≡ joined xs ++ joined ys
 joined-append [] ys = refl
@@ -100,7 +95,7 @@ pub blocks-more : (d : Bool) (n : ℕ) (s : Registers) → blocks d (suc n) s �
 unfolding blocks zs
 blocks-more d n s = joined-append (zs d n s) (made d (moves d n s) ∷ []) ∙ ap (λ (l : List ℕ). joined (zs d n s) ++ l) (append-nil (made d (moves d n s)))
 
-pub blocks-length : (d : Bool) (n : ℕ) (s : Registers) → Good s → length (blocks d n s) ≡ 16 * n
+pub blocks-length : (d : Bool) (n : ℕ) (s : Registers) → IsRegisters s → length (blocks d n s) ≡ 16 * n
 unfolding blocks zs
 blocks-length d zero s g = refl
 blocks-length d (suc n) s g =

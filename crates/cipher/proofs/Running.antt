@@ -11,7 +11,7 @@ use lib.Seq.{take-at, drop-at, drop-drop, sets, sets-eq}
 use borrow.Author.Tests.{lt-ltb, le-ltb}
 use Rattle.scope.specs.Limits.{most-blocks}
 use Rattle.scope.specs.Refusals.{pick}
-use Rattle.cipher.specs.Registers.{Registers, Good}
+use Rattle.cipher.specs.Registers.{Registers, IsRegisters}
 use Rattle.cipher.specs.Run.{move, made, moves, zs, blocks, run-number, run-registers, run-part}
 use Rattle.cipher.proofs.Moves.{made-block, moves-good, blocks-more, blocks-length}
 
@@ -21,7 +21,7 @@ pub record Made (d : Bool) (s : Registers) (xs : List ℕ) (n i : ℕ) (t : Regi
   pub state : t ≡ moves d i s
   pub written : out ≡ blocks d i s ++ drop (16 * i) xs
 
-module _ (d : Bool) (s : Registers) (g : Good s) (xs : List ℕ) (n : ℕ) (room : 16 * n ≤ length xs) where
+module _ (d : Bool) (s : Registers) (g : IsRegisters s) (xs : List ℕ) (n : ℕ) (room : 16 * n ≤ length xs) where
   pub made-none : Made d s xs n 0 s xs
   unfolding moves blocks zs
   made-none = record { at-most = zero-le; state = refl; written = refl }
@@ -82,7 +82,7 @@ module _ (d : Bool) (s : Registers) (xs : List ℕ) (n : ℕ) where
   unfolding run-number
   number-zero h r = rw (le-ltb most-blocks n h, le-ltb (length xs) (16 * n) r)
 
-  pub accepted : Good s → n ≤ most-blocks → 16 * n ≤ length xs → (t : Registers) (out : List ℕ) → Made d s xs n n t out → Answered d s xs n t (16 * n) 0 out
+  pub accepted : IsRegisters s → n ≤ most-blocks → 16 * n ≤ length xs → (t : Registers) (out : List ℕ) → Made d s xs n n t out → Answered d s xs n t (16 * n) 0 out
   unfolding run-registers run-part
   accepted g h r t out m =
       let e = number-zero h r in

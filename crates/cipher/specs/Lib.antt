@@ -4,3 +4,4 @@ pub mod Back
 pub mod Run
 pub mod Machine
 pub mod Lent
+pub mod Laws

@@ -2,6 +2,7 @@
 use mathlib.Core.Bool.{Bool}
 use mathlib.Core.Path.{_≡_}
 use Rattle.words.specs.Machine.{bytesOf}
+use Rattle.lfsr.specs.Machine.{lfsrOf}
 use Rattle.cipher.specs.declared.State.{State}
 use Rattle.cipher.specs.declared.Moved.{Moved}
 use Rattle.cipher.specs.declared.Stepped.{Stepped}
@@ -10,7 +11,7 @@ use Rattle.cipher.specs.Run.{move, made}
 
 -- the registers that the code's state holds
 abbrev pub registersOf : State → Registers
-registersOf s = record { lfsr = s .lfsr; r1 = bytesOf (s .r1); r2 = bytesOf (s .r2); r3 = bytesOf (s .r3) }
+registersOf s = record { lfsr = lfsrOf (s .lfsr); r1 = bytesOf (s .r1); r2 = bytesOf (s .r2); r3 = bytesOf (s .r3) }
 
 -- one step in a direction, from s: the state and the block
 pub record Moves (d : Bool) (s : State) (r : Moved) : Type 0 where

@@ -3,8 +3,7 @@
 use mathlib.Core.List.{List}
 use Prim.Native.Nat.{ℕ}
 use Rattle.words.specs.Bytes.{IsBlock}
-use Rattle.lfsr.specs.declared.Lfsr.{Lfsr}
-use Rattle.lfsr.specs.Clock as clock
+use Rattle.lfsr.specs.Clock.{Lfsr, IsLfsr}
 
 pub record Registers : Type 0 where
   -- A and B
@@ -13,9 +12,9 @@ pub record Registers : Type 0 where
   pub r2 : List ℕ
   pub r3 : List ℕ
 
--- registers that hold cells and blocks, as every `State` does
-pub record Good (s : Registers) : Type 0 where
-  pub cells : clock.Good (s .lfsr)
+-- registers that hold cells and blocks, as those of every `State` of the code do (`every-state` of proofs/Typed.antt)
+pub record IsRegisters (s : Registers) : Type 0 where
+  pub cells : IsLfsr (s .lfsr)
   pub in-r1 : IsBlock (s .r1)
   pub in-r2 : IsBlock (s .r2)
   pub in-r3 : IsBlock (s .r3)

@@ -7,22 +7,22 @@ use lib.Dec.{eqb, lit<}
 use lib.ListN.{length}
 use Rattle.scope.specs.Refusals.{refuse, key-length, iv-length}
 use Rattle.words.specs.Bytes.{Row}
-use Rattle.cipher.specs.Registers.{Good}
+use Rattle.cipher.specs.Registers.{IsRegisters}
 use Rattle.cipher.specs.Run.{forward}
 use Rattle.cipher.proofs.Moves.{moves-good}
 use Rattle.start.specs.Start.{start, start-number}
 use Rattle.start.specs.Leads.{LeadsTo}
 use Rattle.start.proofs.Answers.{both-right}
 use Rattle.start.proofs.Undo.{start-good}
-use Rattle.start.proofs.Tracing.{leads-one, trace-origin, trace-six}
+use Rattle.start.proofs.Tracing.{leads-one, traces}
 use Rattle.session.specs.Calls.{begin-call}
 use Rattle.page.proofs.WholeCalls.{refuse-none}
 use Rattle.claims.specs.Lists.{Bytes, History, History.in-session, History.in-runs, key-of, iv-of, mode-of, Accepted, end, drawn}
 use Rattle.claims.specs.Claims.{Keyed, SealsByPieces, SealsAndOpens, OneStayPerState}
 use Rattle.claims.proofs.Within.{row-of}
 use Rattle.claims.proofs.SuspendedLists.{state-leads, suspended, resumed, written}
-use Rattle.claims.proofs.Pieces.{page, any-list}
-use Rattle.claims.proofs.Opening.{seals, opens, refuses, turned-away}
+use Rattle.claims.proofs.Pieces.{page, any-list, session-after}
+use Rattle.claims.proofs.Opening.{seals, opens, gives-back, no-other}
 use Rattle.claims.proofs.Runs.{course-leads}
 
 -- ---- demand 2
@@ -32,6 +32,7 @@ seals-by-pieces =
     record {
       page = page;
       any-list = any-list;
+      session = session-after;
       resumed = λ key iv l cs out room. (suspended key iv l cs out room, resumed key iv l cs out (suspended key iv l cs out room));
     }
 
@@ -39,15 +40,15 @@ pub seals-and-opens : SealsAndOpens
 seals-and-opens =
     record {
       seals = seals;
-      opens = λ key iv ad text out into o room. opens key iv ad text out o into room;
-      refuses = λ key iv ad text out into tag o room. refuses key iv ad text out o into room tag;
-      refuses-any = λ key iv ad cipher into tag o l. turned-away key iv ad into (o .keyed) (o .ad-fits) (cipher .list) (tag .list) l (o .text-fits) (o .room);
+      opens = opens;
+      gives-back = λ key iv ad text out into o room. gives-back key iv ad text out o into room;
+      no-other = λ key iv ad text out into tag o room. no-other key iv ad text out o into room tag;
     }
 
 -- ---- demand 3
 
 -- what an accepted start, or begin, says of the lengths
-start-keyed : (key iv : Bytes) → start-number (key .list) (iv .list) ≡ 0 → Keyed key iv
+pub start-keyed : (key iv : Bytes) → start-number (key .list) (iv .list) ≡ 0 → Keyed key iv
 unfolding start-number
 start-keyed key iv e =
     let k = length (key .list) in
@@ -81,10 +82,10 @@ one a b p q k n e =
     let l : LeadsTo (key-of a) (drawn a) (iv-of b) (mode-of b) (end a) = rw (k, n, e) (leads b q) in
     leads-one (key-of a) (key-row a p) (drawn a) (leads a p) l
 
-end-good : (a : History) → Accepted a → Good (end a)
+end-good : (a : History) → Accepted a → IsRegisters (end a)
 end-good a e =
     let l = leads a e in
-    subst Good (l .arrives)
+    subst IsRegisters (l .arrives)
     (moves-good forward (drawn a) (start (key-of a) (iv-of a) (mode-of a)) (start-good (key-of a) (key-row a e) (iv-of a) (mode-of a) (l .iv-block)))
 
 pub one-stay-per-state : OneStayPerState
@@ -94,9 +95,8 @@ one-stay-per-state =
       leads = leads;
       apart = λ a b p q k n differ e. differ (one a b p q k n e);
       names = λ a e fits.
-          trace-origin (key-of a) (key-row a e) (drawn a) fits (end a) (end-good a e) (iv-of a) (mode-of a) .1 (leads a e);
-      traced = λ s g key e n fits. trace-origin (key .list) (row-of key e) n fits s g;
-      untraced = λ s g key e n fits. trace-six (key .list) (row-of key e) n fits s g;
-      written = λ key iv cs e out n. written key iv (begin-keyed key iv e) cs out n;
+          traces (end a) (end-good a e) (key-of a) (drawn a) (key-row a e .below) .found (iv-of a) (mode-of a) .1 ((key-row a e .long, fits), leads a e);
+      traces = λ s g key n. traces s g (key .list) n (key .below);
+      registers-written = λ key iv cs e out n. written key iv (begin-keyed key iv e) cs out n;
       resumed = λ key iv cs e out n. resumed key iv (begin-keyed key iv e) cs out n;
     }

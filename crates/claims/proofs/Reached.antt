@@ -2,7 +2,7 @@
 -- accepted text: an accepted piece moves on to the next such session, a refused one changes nothing, and neither does suspending, resumed or not.
 use mathlib.Core.Path.{_≡_, refl, sym, ap, subst, _∙_}
 use mathlib.Core.List.{List, [], _∷_, _++_, append-nil}
-use mathlib.Core.Bool.{Bool, true, false}
+use mathlib.Core.Bool.{Bool, true, false, _||_}
 use Prim.Native.Nat.{ℕ, _+_, _≤_}
 use native.Mathlib.Nat.{zero-add}
 use borrow.Author.Tests.{eqb-true}
@@ -11,23 +11,32 @@ use lib.ListN.{length, take, drop}
 use lib.Seq.{take-at}
 use Rattle.scope.specs.Limits.{most-data, most-text}
 use Rattle.words.specs.Bytes.{Row, IsBlock}
-use Rattle.session.specs.Sealing.{Sealing}
-use Rattle.session.specs.Calls.{data-number, data-call, text-number, text-call, begin-call}
+use Rattle.session.specs.Session.{Session}
+use Rattle.session.specs.Calls.{data-number, data-call, text-number, text-call}
 use Rattle.suspend.specs.Calls.{suspend-call, Resumed}
 use Rattle.suspend.proofs.RoundTrip.{suspend-session}
 use Rattle.page.specs.Page.{encrypted, cipher-of}
 use Rattle.page.proofs.Ciphertext.{encrypted-append, encrypted-length}
 use Rattle.page.proofs.Stages.{Stage, Stage.taking-data, Stage.taking-text, ad-of, text-of, session-at}
+use Rattle.page.proofs.Reached.{closed-of}
 use Rattle.page.proofs.WholeCalls.{begin-call-at, data-call-at, data-accepted, text-call-at, text-accepted}
-use Rattle.claims.specs.Lists.{Bytes, Call, Call.give-data, Call.give-text, Call.suspend-alone, Call.suspend-and-resume, Trail, call, calls, after}
+use Rattle.claims.specs.Lists.{Bytes, Call, Call.give-data, Call.give-text, Call.suspend-alone, Call.suspend-and-resume, Trail, call, calls, at-begin, after}
 use Rattle.claims.specs.Claims.{Keyed}
 use Rattle.claims.proofs.Within.{row-of, Within, none-within, data-within, text-within}
 use Rattle.claims.proofs.Suspending.{resume-at}
 
+or-true : (b : Bool) → (b || true) ≡ true
+or-true true = refl
+or-true false = refl
+
+or-false : (b : Bool) → (b || false) ≡ b
+or-false true = refl
+or-false false = refl
+
 module _ (key iv : List ℕ) where
   -- what a list of calls has come to where its accepted pieces lead to a stage
   abbrev pub trail-at : Stage → Trail
-  trail-at g = record { session = session-at key iv g; ad = ad-of g; text = text-of g; cipher = cipher-of key iv (text-of g) }
+  trail-at g = record { session = session-at key iv g; ad = ad-of g; text = text-of g; cipher = cipher-of key iv (text-of g); closed = closed-of g }
 
   pub record Reached (t : Trail) : Type 0 where
     pub stage : Stage
@@ -51,7 +60,7 @@ module _ (key iv : List ℕ) where
       let a : cipher-of key iv (text-of g) ++ c ≡ cipher-of key iv (text-of g ++ p .list) =
       ap (λ (n : ℕ). cipher-of key iv (text-of g) ++ encrypted key iv n (p .list)) (sym (zero-add (length (text-of g))))
       ∙ sym (encrypted-append key iv 0 (text-of g) (p .list)) in
-      rw (text-call-at key iv g (p .list) (out .list) fits room, w, a)
+      rw (text-call-at key iv g (p .list) (out .list) fits room, w, a, or-true (closed-of g))
 
   -- ---- a refused one
 
@@ -61,7 +70,7 @@ module _ (key iv : List ℕ) where
 
   text-refused : (t : Trail) (p out : Bytes) → eqb (text-number (t .session) (p .list) (out .list)) 0 ≡ false → call key t (give-text p out) ≡ t
   unfolding call text-call
-  text-refused t p out e = rw (e, append-nil (t .text), append-nil (t .cipher))
+  text-refused t p out e = rw (e, append-nil (t .text), append-nil (t .cipher), or-false (t .closed))
 
   -- ---- any list
 
@@ -109,8 +118,8 @@ module _ (key iv : List ℕ) where
 -- ---- suspended, and resumed or not: all stays as it is
 
 -- a trail with another session
-abbrev with-session : Trail → Sealing → Trail
-with-session t s = record { session = s; ad = t .ad; text = t .text; cipher = t .cipher }
+abbrev with-session : Trail → Session → Trail
+with-session t s = record { session = s; ad = t .ad; text = t .text; cipher = t .cipher; closed = t .closed }
 
 pub suspended-same : (key : List ℕ) (t : Trail) (out : Bytes) → call key t (suspend-alone out) ≡ t
 unfolding call
@@ -142,7 +151,7 @@ module _ (key iv : List ℕ) (r : Row 32 256 key) (v : IsBlock iv) where
 -- ---- from begin on
 
 pub begin-at : (key iv : Bytes) → Keyed key iv
-    → record { session = begin-call (key .list) (iv .list) .session; ad = []; text = []; cipher = [] } ≡ trail-at (key .list) (iv .list) (taking-data [])
+    → at-begin key iv ≡ trail-at (key .list) (iv .list) (taking-data [])
 unfolding encrypted
 begin-at key iv l = rw (begin-call-at (key .list) (iv .list) (l .key-long) (l .iv-long))
 

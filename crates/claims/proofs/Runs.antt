@@ -11,8 +11,7 @@ use Rattle.scope.specs.Refusals.{granted}
 use Rattle.cipher.specs.Registers.{Registers}
 use Rattle.cipher.specs.Run.{forward, moves, run-number, run-registers}
 use Rattle.cipher.proofs.Moves.{moves-add}
-use Rattle.start.specs.declared.Mode.{Mode}
-use Rattle.start.specs.Start.{start, start-number}
+use Rattle.start.specs.Start.{Mode, start, start-number}
 use Rattle.claims.specs.Lists.{Bytes, Run, Course, runs, course}
 
 module _ (s : Registers) where

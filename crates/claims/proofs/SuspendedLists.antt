@@ -6,9 +6,8 @@ use Prim.Native.Nat.{_≤_}
 use lib.ListN.{length, take}
 use Rattle.words.specs.Bytes.{part}
 use Rattle.cipher.specs.Run.{forward, moves}
-use Rattle.start.specs.declared.Mode.the-variants.{Sealed}
-use Rattle.start.specs.Start.{start}
-use Rattle.session.specs.Sealing.{Sealing, drawn-at}
+use Rattle.start.specs.Start.{Mode.sealed, start}
+use Rattle.session.specs.Session.{Session, drawn-at}
 use Rattle.layout.specs.Block.{registers-at}
 use Rattle.suspend.specs.Calls.{suspend-call, resume-call}
 use Rattle.page.proofs.Stages.{session-at}
@@ -22,23 +21,23 @@ module _ (key iv : Bytes) (l : Keyed key iv) (cs : List Call) where
   reached : Reached (key .list) (iv .list) (after key iv cs)
   reached = after-reached key iv l cs
 
-  at : Sealing
+  at : Session
   at = session-at (key .list) (iv .list) (reached .stage)
 
   session-is : after key iv cs .session ≡ at
   unfolding at
   session-is = ap (λ (u : Trail). u .session) (reached .is)
 
-  pub state-leads : moves forward (drawn-at (length (after key iv cs .text))) (start (key .list) (iv .list) Sealed) ≡ cipher-state (after key iv cs .session)
+  pub state-leads : moves forward (drawn-at (length (after key iv cs .text))) (start (key .list) (iv .list) sealed) ≡ cipher-state (after key iv cs .session)
   unfolding at
   state-leads =
-      ap (λ (u : Trail). moves forward (drawn-at (length (u .text))) (start (key .list) (iv .list) Sealed)) (reached .is)
+      ap (λ (u : Trail). moves forward (drawn-at (length (u .text))) (start (key .list) (iv .list) sealed)) (reached .is)
       ∙ sym (cipher-state-at (key .list) (iv .list) (row-of key (l .key-long)) (row-of iv (l .iv-long)) (reached .stage) (reached .within))
       ∙ ap cipher-state (sym session-is)
 
   module _ (out : Bytes) where
     number-is : suspended-number key iv cs out ≡ suspend-call at (out .list) .number
-    number-is = ap (λ (s : Sealing). suspend-call s (out .list) .number) session-is
+    number-is = ap (λ (s : Session). suspend-call s (out .list) .number) session-is
 
     pub suspended : 512 ≤ length (out .list) → suspended-number key iv cs out ≡ 0
     unfolding at
@@ -50,14 +49,14 @@ module _ (key iv : Bytes) (l : Keyed key iv) (cs : List Call) where
       unfolding at
       resumed =
           subst
-          (λ (s : Sealing). resume-call (key .list) (take 512 (suspend-call s (out .list) .out)) ≡ record { number = 0; iv = iv .list; session = s })
+          (λ (s : Session). resume-call (key .list) (take 512 (suspend-call s (out .list) .out)) ≡ record { number = 0; iv = iv .list; session = s })
           (sym session-is)
           (resume-at (key .list) (iv .list) (row-of key (l .key-long)) (row-of iv (l .iv-long)) (reached .stage) (reached .within) (out .list) (sym number-is ∙ n))
 
       pub written : registers-at (part 16 112 (suspended-out key iv cs out)) ≡ cipher-state (after key iv cs .session)
       unfolding at
       written =
-          ap (λ (s : Sealing). registers-at (part 16 112 (suspend-call s (out .list) .out))) session-is
+          ap (λ (s : Session). registers-at (part 16 112 (suspend-call s (out .list) .out))) session-is
           ∙ written-at (key .list) (iv .list) (row-of key (l .key-long)) (row-of iv (l .iv-long)) (reached .stage) (reached .within) (out .list) (sym number-is ∙ n)
           ∙ sym (cipher-state-at (key .list) (iv .list) (row-of key (l .key-long)) (row-of iv (l .iv-long)) (reached .stage) (reached .within))
           ∙ ap cipher-state (sym session-is)

@@ -8,9 +8,8 @@ use lib.Dec.{lit≤}
 use lib.ListN.{length, take, replicate}
 use Rattle.words.specs.Bytes.{Row, IsBlock, part}
 use Rattle.cipher.specs.Run.{forward, moves}
-use Rattle.start.specs.declared.Mode.the-variants.{Sealed}
-use Rattle.start.specs.Start.{start}
-use Rattle.session.specs.Sealing.{drawn-at}
+use Rattle.start.specs.Start.{Mode.sealed, start}
+use Rattle.session.specs.Session.{drawn-at}
 use Rattle.layout.specs.Block.{registers-at}
 use Rattle.layout.specs.Rules as rules
 use Rattle.suspend.specs.Calls.{suspend-call, resume-call}
@@ -67,10 +66,10 @@ module _ (key iv : List ℕ) (k : Row 32 256 key) (v : IsBlock iv) (g : Stage) (
 
   -- the registers, wherever they are written
   pub written-at : (out : List ℕ) → suspend-call (session-at key iv g) out .number ≡ 0
-      → registers-at (part 16 112 (suspend-call (session-at key iv g) out .out)) ≡ moves forward (drawn-at (length (text-of g))) (start key iv Sealed)
+      → registers-at (part 16 112 (suspend-call (session-at key iv g) out .out)) ≡ moves forward (drawn-at (length (text-of g))) (start key iv sealed)
   unfolding session-at
   written-at out n = suspend-registers (session-at key iv g) (led .fine) out n ∙ led .registers-led
 
-  pub cipher-state-at : cipher-state (session-at key iv g) ≡ moves forward (drawn-at (length (text-of g))) (start key iv Sealed)
+  pub cipher-state-at : cipher-state (session-at key iv g) ≡ moves forward (drawn-at (length (text-of g))) (start key iv sealed)
   unfolding cipher-state
   cipher-state-at = written-at (replicate 512 0) (suspend-at (replicate 512 0) (lit≤ tt))

@@ -1,24 +1,23 @@
 -- Demands 2 and 3 (the user's words stand in quotes), as statements about every list of calls, every page and every state. They speak of the
 -- functions that the contracts of start, run, trace, begin, data, text, finish, suspend, resume, seal and open name, and of the page as the paper
--- defines it.
+-- defines it. proofs/Demands.antt proves them.
 use Prim.Native.Nat.{ℕ, _≤_}
 use mathlib.Core.Path.{_≡_}
-use mathlib.Core.Logic.{_↔_}
 use mathlib.Core.List.{List, _++_}
-use lib.ListN.{length, take, drop}
+use lib.ListN.{getD, length, take, drop}
 use Rattle.scope.specs.Limits.{most-data, most-text, most-blocks}
-use Rattle.scope.specs.Refusals.{bad-tag, no-origin}
+use Rattle.scope.specs.Refusals.{bad-tag}
 use Rattle.words.specs.Bytes.{part}
-use Rattle.cipher.specs.Registers.{Registers, Good}
-use Rattle.start.specs.declared.Mode.{Mode}
-use Rattle.start.specs.Leads.{LeadsTo}
-use Rattle.start.specs.Trace.{Answer.origin, Answer.refused, trace}
+use Rattle.cipher.specs.Registers.{Registers, IsRegisters}
+use Rattle.start.specs.Leads.{LeadsTo, Traced.origin, Traces}
+use Rattle.start.specs.Trace.{trace}
 use Rattle.session.specs.Calls.{begin-call, finish-call}
 use Rattle.layout.specs.Block.{registers-at}
 use Rattle.suspend.specs.Calls.{suspend-call, resume-call}
 use Rattle.page.specs.Page.{cipher-of, tag-for, page-tag}
 use Rattle.page.specs.Calls.{seal-number, seal-out, seal-tag, open-number, open-out}
-use Rattle.claims.specs.Lists.{Bytes, Call, after, Joins, History, History.in-session, key-of, iv-of, mode-of, Accepted, end, drawn}
+use Rattle.page.specs.Reached.{session-of}
+use Rattle.claims.specs.Lists.{Bytes, Call, after, answers-of, Joins, History, History.in-session, key-of, iv-of, mode-of, Accepted, end, drawn}
 
 -- a key of 32 bytes and an IV of 16
 pub record Keyed (key iv : Bytes) : Type 0 where
@@ -42,22 +41,32 @@ Resumes key iv cs out =
 
 -- ---- demand 2: sealing by pieces
 
+-- every piece of data and text in a list is answered 0, and what was accepted is the page
+pub record AllAccepted (key iv : Bytes) (cs : List Call) (ad text : List ℕ) : Type 0 where
+  -- (past the last piece `getD` gives 0)
+  pub answered : (i : ℕ) → getD (answers-of key iv cs) i 0 ≡ 0
+  pub data-is : after key iv cs .ad ≡ ad
+  pub text-is : after key iv cs .text ≡ text
+
 -- what a list of calls has written, and what finish then gives, are the page's ciphertext and tag
-pub record Sealed (key iv : Bytes) (cs : List Call) (ad text : List ℕ) : Type 0 where
+pub record SealedByPieces (key iv : Bytes) (cs : List Call) (ad text : List ℕ) : Type 0 where
   pub begun : begin-call (key .list) (iv .list) .number ≡ 0
   pub cipher : after key iv cs .cipher ≡ cipher-of (key .list) (iv .list) text
-  pub accepted : finish-call (after key iv cs .session) .number ≡ 0
+  pub finished : finish-call (after key iv cs .session) .number ≡ 0
   pub tag : finish-call (after key iv cs .session) .out ≡ page-tag (key .list) (iv .list) ad text
 
 -- "Where nothing is turned away, sealing gives precisely the ciphertext and tag that the SNOW-V paper defines, .. for every list of pieces that
 -- join to it, parked and taken up between them or not."
 pub record SealsByPieces : Type 0 where
-  -- For every page within the limits and every list of pieces that join to it, with suspends and resumes anywhere: the ciphertext pieces join to
-  -- the page's ciphertext, and finish is accepted and gives its tag.
+  -- For every page within the limits and every list of pieces that join to it, with suspends and resumes anywhere: every piece is accepted, the
+  -- ciphertext pieces join to the page's ciphertext, and finish is accepted and gives its tag.
   pub page : (key iv : Bytes) → Keyed key iv → (ad text : List ℕ) → length ad ≤ most-data → length text ≤ most-text → (cs : List Call)
-      → Joins cs ad text → Sealed key iv cs ad text
+      → Joins cs ad text → AllAccepted key iv cs ad text × SealedByPieces key iv cs ad text
   -- For every list of calls at all, refused ones included: the same of the pieces that were accepted.
-  pub any-list : (key iv : Bytes) → Keyed key iv → (cs : List Call) → Sealed key iv cs (after key iv cs .ad) (after key iv cs .text)
+  pub any-list : (key iv : Bytes) → Keyed key iv → (cs : List Call) → SealedByPieces key iv cs (after key iv cs .ad) (after key iv cs .text)
+  -- After every list of calls the session is what key, IV and the accepted pieces make it.
+  pub session : (key iv : Bytes) → Keyed key iv → (cs : List Call)
+      → let t = after key iv cs in t .session ≡ session-of (key .list) (iv .list) (t .ad) (t .text) (t .closed)
   -- After every list of calls, suspend is accepted where the output has room for its 512 bytes, and resume right after it gives the very session.
   pub resumed : (key iv : Bytes) → Keyed key iv → (cs : List Call) (out : Bytes) → 512 ≤ length (out .list)
       → (suspended-number key iv cs out ≡ 0) × Resumes key iv cs out
@@ -81,34 +90,45 @@ sealed-tag key iv ad text out = seal-tag (key .list) (iv .list) (ad .list) (text
 -- seal is accepted, writes the page's ciphertext at the front of its output and nothing behind it, and gives the page's tag
 pub record SealedWhole (key iv ad text out : Bytes) : Type 0 where
   pub accepted : seal-number (key .list) (iv .list) (ad .list) (text .list) (out .list) ≡ 0
-  pub written : seal-out (key .list) (iv .list) (ad .list) (text .list) (out .list)
+  pub output : seal-out (key .list) (iv .list) (ad .list) (text .list) (out .list)
       ≡ cipher-of (key .list) (iv .list) (text .list) ++ drop (length (text .list)) (out .list)
   pub tag : sealed-tag key iv ad text out ≡ page-tag (key .list) (iv .list) (ad .list) (text .list)
 
 -- open of this ciphertext and tag is accepted, writes the text at the front of its output and nothing behind it
-pub record Opened (key iv ad : Bytes) (cipher tag : List ℕ) (out text : Bytes) : Type 0 where
+pub record Opened (key iv ad : Bytes) (cipher tag : List ℕ) (out : Bytes) (text : List ℕ) : Type 0 where
   pub accepted : open-number (key .list) (iv .list) (ad .list) cipher tag (out .list) ≡ 0
-  pub written : open-out (key .list) (iv .list) (ad .list) cipher tag (out .list) ≡ text .list ++ drop (length (text .list)) (out .list)
+  pub output : open-out (key .list) (iv .list) (ad .list) cipher tag (out .list) ≡ text ++ drop (length text) (out .list)
 
 -- it is refused with 5 and writes nothing
-pub record TurnedAway (key iv ad : Bytes) (cipher tag : List ℕ) (out : Bytes) : Type 0 where
+pub record OpenRefused (key iv ad : Bytes) (cipher tag : List ℕ) (out : Bytes) : Type 0 where
   pub number : open-number (key .list) (iv .list) (ad .list) cipher tag (out .list) ≡ bad-tag
-  pub unwritten : open-out (key .list) (iv .list) (ad .list) cipher tag (out .list) ≡ out .list
+  pub unchanged : open-out (key .list) (iv .list) (ad .list) cipher tag (out .list) ≡ out .list
+
+-- the one text whose ciphertext this is
+pub record TextOf (key iv : Bytes) (cipher text : List ℕ) : Type 0 where
+  pub encrypts : cipher-of (key .list) (iv .list) text ≡ cipher
+  pub only : (t : List ℕ) → cipher-of (key .list) (iv .list) t ≡ cipher → t ≡ text
+
+-- open of a ciphertext, sealed here or not, under a tag of 16 bytes
+pub record Opens (key iv ad cipher tag into : Bytes) : Type 0 where
+  -- "gives the text back if the tag is the one so defined,
+  pub gives : tag .list ≡ tag-for (key .list) (iv .list) (ad .list) (cipher .list)
+      → (text : List ℕ) × TextOf key iv (cipher .list) text × Opened key iv ad (cipher .list) (tag .list) into text
+  -- and otherwise refuses without writing a byte"
+  pub refuses : ¬ (tag .list ≡ tag-for (key .list) (iv .list) (ad .list) (cipher .list)) → OpenRefused key iv ad (cipher .list) (tag .list) into
 
 -- Seal gives the page that the paper defines; open gives the text back under the tag so defined, and under any other refuses.
 pub record SealsAndOpens : Type 0 where
   pub seals : (key iv ad text out : Bytes) → InOrder key iv ad text out → SealedWhole key iv ad text out
-  -- What was sealed opens to its text, into every output that is long enough.
-  pub opens : (key iv ad text out into : Bytes) → InOrder key iv ad text out → length (text .list) ≤ length (into .list)
-      → Opened key iv ad (sealed-text key iv ad text out) (sealed-tag key iv ad text out) into text
-  -- Under any other tag of 16 bytes it does not.
-  pub refuses : (key iv ad text out into tag : Bytes) → InOrder key iv ad text out → length (text .list) ≤ length (into .list)
+  -- "Opening, its lengths in order, ..": every ciphertext, into every output that is long enough.
+  pub opens : (key iv ad cipher tag into : Bytes) → InOrder key iv ad cipher into → length (tag .list) ≡ 16 → Opens key iv ad cipher tag into
+  -- What was sealed opens to its text under the tag that seal gave,
+  pub gives-back : (key iv ad text out into : Bytes) → InOrder key iv ad text out → length (text .list) ≤ length (into .list)
+      → Opened key iv ad (sealed-text key iv ad text out) (sealed-tag key iv ad text out) into (text .list)
+  -- and under no other of 16 bytes.
+  pub no-other : (key iv ad text out into tag : Bytes) → InOrder key iv ad text out → length (text .list) ≤ length (into .list)
       → length (tag .list) ≡ 16 → ¬ (tag .list ≡ sealed-tag key iv ad text out)
-      → TurnedAway key iv ad (sealed-text key iv ad text out) (tag .list) into
-  -- Nor does any ciphertext, sealed here or not, under a tag that is not the one defined for it.
-  pub refuses-any : (key iv ad cipher into tag : Bytes) → InOrder key iv ad cipher into → length (tag .list) ≡ 16
-      → ¬ (tag .list ≡ tag-for (key .list) (iv .list) (ad .list) (cipher .list))
-      → TurnedAway key iv ad (cipher .list) (tag .list) into
+      → OpenRefused key iv ad (sealed-text key iv ad text out) (tag .list) into
 
 -- ---- demand 3
 
@@ -126,17 +146,14 @@ pub record OneStayPerState : Type 0 where
       → ¬ ((iv-of a ≡ iv-of b) × (mode-of a ≡ mode-of b)) → ¬ (end a ≡ end b)
   -- "A state names its stay": up to 65,538 blocks, trace from where a list ended gives the stay number and mode that it began with.
   pub names : (a : History) → Accepted a → drawn a ≤ most-blocks → trace (end a) (key-of a) (drawn a) ≡ origin (iv-of a) (mode-of a)
-  -- "Walking back (trace) gives the one stay number and mode that lead to a state .. That is claimed of every state, reached or not, under every
-  -- key of 32 bytes and at every count up to 65,538." Trace has one answer, so that no other stay number or mode leads there. `Good` holds of
-  -- every state: its cells have 16 bits, and its blocks are 16 bytes.
-  pub traced : (s : Registers) → Good s → (key : Bytes) → length (key .list) ≡ 32 → (n : ℕ) → n ≤ most-blocks → (iv : List ℕ) (m : Mode)
-      → (trace s (key .list) n ≡ origin iv m) ↔ LeadsTo (key .list) n iv m s
-  -- "and is refused with 6 exactly when none leads there"
-  pub untraced : (s : Registers) → Good s → (key : Bytes) → length (key .list) ≡ 32 → (n : ℕ) → n ≤ most-blocks
-      → (trace s (key .list) n ≡ refused no-origin) ↔ ((iv : List ℕ) (m : Mode) → ¬ LeadsTo (key .list) n iv m s)
-  -- Every accepted park of where a list ended writes the registers of that cipher state at bytes 16-127, whatever output it is lent.
-  pub written : (key iv : Bytes) (cs : List Call) → Accepted (in-session key iv cs) → (out : Bytes) → suspended-number key iv cs out ≡ 0
+  -- "Walking back (trace) gives the one stay number and mode that lead to a state, and is refused with 6 exactly when none leads there. That is
+  -- claimed of every state, reached or not, under every key of 32 bytes and at every count up to 65,538." Trace has one answer, so that no other
+  -- stay number or mode leads there. The registers of every `State` of the code are such registers (`every-state` of crates/cipher/proofs/Typed.antt),
+  -- and the contract of `start::trace` says the same of every `State` and every lent key, without a hypothesis.
+  pub traces : (s : Registers) → IsRegisters s → (key : Bytes) (n : ℕ) → Traces s (key .list) n (trace s (key .list) n)
+  -- Every accepted suspend of where a list ended writes the registers of that cipher state at bytes 16-127, whatever output it is lent.
+  pub registers-written : (key iv : Bytes) (cs : List Call) → Accepted (in-session key iv cs) → (out : Bytes) → suspended-number key iv cs out ≡ 0
       → registers-at (part 16 112 (suspended-out key iv cs out)) ≡ end (in-session key iv cs)
-  -- Every take up that stands in a list is accepted, and gives the stay number that the list began with and the very session that was parked.
+  -- Every resume that stands in a list is accepted, and gives the stay number that the list began with and the very session that was suspended.
   pub resumed : (key iv : Bytes) (cs : List Call) → Accepted (in-session key iv cs) → (out : Bytes) → suspended-number key iv cs out ≡ 0
       → Resumes key iv cs out

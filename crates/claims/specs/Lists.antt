@@ -4,16 +4,16 @@
 -- any other and draws nothing. Every call is the definition that its contract names. Keys, IVs, pieces and outputs are lists of bytes.
 use Prim.Native.Nat.{ℕ, _+_, _<_, _≤_}
 use mathlib.Core.Path.{_≡_}
+use mathlib.Core.Bool.{Bool, false, _||_}
 use mathlib.Core.List.{List, [], _∷_, _++_}
+use lib.Dec.{eqb}
 use lib.ListN.{getD, length, take, replicate}
 use Rattle.scope.specs.Refusals.{granted}
 use Rattle.words.specs.Bytes.{part}
 use Rattle.cipher.specs.Registers.{Registers}
 use Rattle.cipher.specs.Run.{forward, run-number, run-registers}
-use Rattle.start.specs.declared.Mode.{Mode}
-use Rattle.start.specs.declared.Mode.the-variants.{Sealed}
-use Rattle.start.specs.Start.{start, start-number, blank}
-use Rattle.session.specs.Sealing.{Sealing, drawn-at}
+use Rattle.start.specs.Start.{Mode, Mode.sealed, start, start-number, blank}
+use Rattle.session.specs.Session.{Session, drawn-at}
 use Rattle.session.specs.Calls.{begin-call, data-call, text-call}
 use Rattle.layout.specs.Block.{registers-at}
 use Rattle.suspend.specs.Calls.{suspend-call, resume-call}
@@ -33,19 +33,21 @@ pub data Call : Type 0 where
   suspend-alone : (out : Bytes) → Call
   suspend-and-resume : (out : Bytes) → Call
 
--- where a list of calls has come to: the session, and the accepted pieces joined, of data, of text, and what the latter wrote
+-- where a list of calls has come to: the session, the accepted pieces joined, of data and of text, what the latter wrote, and whether a text piece,
+-- even an empty one, has closed the data
 pub record Trail : Type 0 where
-  pub session : Sealing
+  pub session : Session
   pub ad : List ℕ
   pub text : List ℕ
   pub cipher : List ℕ
+  pub closed : Bool
 
 -- One call more, under the begin's key. A suspend that is refused is followed by no resume; behind an accepted one the session is what resume
 -- gives, whatever that is.
 unfoldable pub call : (key : List ℕ) → Trail → Call → Trail
 call key t (give-data p) =
     let g = data-call (t .session) (p .list) in
-    record { session = g .session; ad = t .ad ++ granted (g .number) (p .list) []; text = t .text; cipher = t .cipher }
+    record { session = g .session; ad = t .ad ++ granted (g .number) (p .list) []; text = t .text; cipher = t .cipher; closed = t .closed }
 call key t (give-text p out) =
     let g = text-call (t .session) (p .list) (out .list) in
     record {
@@ -53,10 +55,11 @@ call key t (give-text p out) =
       ad = t .ad;
       text = t .text ++ granted (g .number) (p .list) [];
       cipher = t .cipher ++ granted (g .number) (take (length (p .list)) (g .out)) [];
+      closed = t .closed || eqb (g .number) 0;
     }
 call key t (suspend-alone out) =
     let g = suspend-call (t .session) (out .list) in
-    record { session = g .session; ad = t .ad; text = t .text; cipher = t .cipher }
+    record { session = g .session; ad = t .ad; text = t .text; cipher = t .cipher; closed = t .closed }
 call key t (suspend-and-resume out) =
     let g = suspend-call (t .session) (out .list) in
     record {
@@ -64,18 +67,33 @@ call key t (suspend-and-resume out) =
       ad = t .ad;
       text = t .text;
       cipher = t .cipher;
+      closed = t .closed;
     }
 
 unfoldable pub calls : (key : List ℕ) → Trail → List Call → Trail
 calls key t [] = t
 calls key t (c ∷ cs) = calls key (call key t c) cs
 
--- the whole list, from begin on
+-- what the pieces of data and text in a list are answered, in turn
+unfoldable pub answers : (key : List ℕ) → Trail → List Call → List ℕ
+answers key t [] = []
+answers key t (give-data p ∷ cs) = data-call (t .session) (p .list) .number ∷ answers key (call key t (give-data p)) cs
+answers key t (give-text p out ∷ cs) = text-call (t .session) (p .list) (out .list) .number ∷ answers key (call key t (give-text p out)) cs
+answers key t (suspend-alone out ∷ cs) = answers key (call key t (suspend-alone out)) cs
+answers key t (suspend-and-resume out ∷ cs) = answers key (call key t (suspend-and-resume out)) cs
+
+-- from begin on: where the whole list has come to, and what its pieces are answered
+abbrev pub at-begin : (key iv : Bytes) → Trail
+at-begin key iv = record { session = begin-call (key .list) (iv .list) .session; ad = []; text = []; cipher = []; closed = false }
+
 abbrev pub after : (key iv : Bytes) → List Call → Trail
-after key iv cs = calls (key .list) (record { session = begin-call (key .list) (iv .list) .session; ad = []; text = []; cipher = [] }) cs
+after key iv cs = calls (key .list) (at-begin key iv) cs
+
+abbrev pub answers-of : (key iv : Bytes) → List Call → List ℕ
+answers-of key iv cs = answers (key .list) (at-begin key iv) cs
 
 -- "A session's is the one whose registers an accepted park of it would write at bytes 16-127": the cipher state of a session
-unfoldable pub cipher-state : Sealing → Registers
+unfoldable pub cipher-state : Session → Registers
 cipher-state s = registers-at (part 16 112 (suspend-call s (replicate 512 0) .out))
 
 -- ---- a page handed over: data pieces, then text pieces, each with room for its ciphertext; suspended and resumed anywhere, or not
@@ -161,7 +179,7 @@ iv-of (in-session key iv cs) = iv .list
 iv-of (in-runs key iv m rs) = iv .list
 
 abbrev pub mode-of : History → Mode
-mode-of (in-session key iv cs) = Sealed
+mode-of (in-session key iv cs) = sealed
 mode-of (in-runs key iv m rs) = m
 
 -- its begin, or its start, is accepted

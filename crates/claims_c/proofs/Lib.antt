@@ -1,1 +1,2 @@
+pub mod CipherThroughC
 pub mod ThroughC

@@ -4,4 +4,4 @@ pub mod Reading
 pub mod Taken
 pub mod Printing
 pub mod Whole
-pub mod Sealing
+pub mod Session

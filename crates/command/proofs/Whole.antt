@@ -11,16 +11,9 @@ use lib.ListN.{length, take, length-append, length-take}
 use lib.Seq.{take-all}
 use Rattle.command.specs.Lines.{Line, Line.ended, Line.no-line, Lines, Lines.four, Lines.malformed, well-formed, first-line, then, at-end, lines-in}
 use Rattle.command.specs.Output.{answer-to, printed, output}
+use Rattle.command.specs.Laws.{FourLines, ReadsFourLines}
 use Rattle.command.proofs.Reading.{formed-short, formed-line}
 use Rattle.command.proofs.Taken.{taken}
-
--- an input that is four lines
-pub record Whole (s k v d t : List ℕ) : Type 0 where
-  pub key : well-formed k ≡ true
-  pub iv : well-formed v ≡ true
-  pub ad : well-formed d ≡ true
-  pub text : well-formed t ≡ true
-  pub all : s ≡ k ++ 0x0a ∷ (v ++ 0x0a ∷ (d ++ 0x0a ∷ (t ++ 0x0a ∷ [])))
 
 -- a line was read first
 Then : Line → (List ℕ → List ℕ → Lines) → Lines → Type 0
@@ -41,7 +34,7 @@ joined : (s a b c g k v d t k′ v′ d′ t′ : List ℕ) → k′ ≡ k → v
     → s ≡ k ++ 0x0a ∷ (v ++ 0x0a ∷ (d ++ 0x0a ∷ (t ++ 0x0a ∷ [])))
 joined s a b c g k v d t k′ v′ d′ t′ ek ev ed et eg es ea eb ec = cc
 
-pub read-as : (s k v d t : List ℕ) → four k v d t ≡ lines-in s → Whole s k v d t
+pub read-as : (s k v d t : List ℕ) → four k v d t ≡ lines-in s → FourLines s k v d t
 unfolding lines-in Then
 read-as s k v d t e =
     let a = a-line k v d t (first-line s) _ e in
@@ -61,12 +54,12 @@ read-as s k v d t e =
       all = joined s (a .1) (b .1) (c .1) (g .1) k v d t (a .0) (b .0) (c .0) (g .0) (z .0) (z .1) (z .2) (z .3) (z .4) (ta .joined) (tb .joined) (tc .joined) (tg .joined);
     }
 
-pub as-read : (s k v d t : List ℕ) → Whole s k v d t → four k v d t ≡ lines-in s
+as-read : (s k v d t : List ℕ) → FourLines s k v d t → four k v d t ≡ lines-in s
 unfolding lines-in
 as-read s k v d t w =
     rw (w .all, ← formed-line k (w .key) (v ++ 0x0a ∷ (d ++ 0x0a ∷ (t ++ 0x0a ∷ []))), ← formed-line v (w .iv) (d ++ 0x0a ∷ (t ++ 0x0a ∷ [])), ← formed-line d (w .ad) (t ++ 0x0a ∷ []), ← formed-line t (w .text) [])
 
-whole-length : (s k v d t : List ℕ) → Whole s k v d t → length s ≤ 32772
+whole-length : (s k v d t : List ℕ) → FourLines s k v d t → length s ≤ 32772
 whole-length s k v d t w =
     let e : length s ≡ length k + (1 + (length v + (1 + (length d + (1 + (length t + 1)))))) =
     ap length (w .all) ∙ simp length-append (omega arith) in
@@ -76,11 +69,11 @@ by-lines : (s : List ℕ) (x : Lines) → x ≡ lines-in s → 32772 < length s 
 by-lines s (four k v d t) e h = absurd (omega (arith, whole-length s k v d t (read-as s k v d t e)))
 by-lines s malformed e h = sym e
 
-pub too-long : (s : List ℕ) → 32772 < length s → lines-in s ≡ malformed
+too-long : (s : List ℕ) → 32772 < length s → lines-in s ≡ malformed
 too-long s h = by-lines s (lines-in s) refl h
 
 -- the first 32,773 bytes of an input have the output of the whole
-pub cut-off : (s : List ℕ) → output (take 32773 s) ≡ output s
+cut-off : (s : List ℕ) → output (take 32773 s) ≡ output s
 unfolding output
 cut-off s = by (ltb 32772 (length s)) refl
   where
@@ -90,3 +83,6 @@ cut-off s = by (ltb 32772 (length s)) refl
         let k : 32772 < length (take 32773 s) = simp length-take (omega arith) in
         ap (λ (l : Lines). printed (answer-to l)) (too-long (take 32773 s) k ∙ sym (too-long s h))
     by false e = let h : length s ≤ 32772 = ltb-false 32772 (length s) e in ap (λ (l : List ℕ). printed (answer-to (lines-in l))) (take-all 32773 s (omega arith))
+
+pub reads-four-lines : ReadsFourLines
+reads-four-lines = record { read-as = λ s k v d t. (read-as s k v d t, as-read s k v d t); too-long = too-long; cut-off = cut-off }

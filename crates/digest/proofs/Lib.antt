@@ -1,4 +1,4 @@
 pub mod Pieces
 pub mod Settling
-pub mod Kept
+pub mod Preserved
 pub mod Slices

@@ -10,14 +10,10 @@ use borrow.Author.Tests.{ne-eqb}
 use lib.ListN.{length, take, drop, replicate, length-append, length-drop, length-replicate, take-append-drop}
 use lib.Seq.{sets, sets-eq, length-take-le}
 use Rattle.words.specs.Bytes.{zeros}
-use Rattle.ghash.specs.Hash.{eat, eats, blocks-of, hashFrom}
+use Rattle.ghash.specs.Hash.{eat, eats, blocks-of, hashFrom, whole-blocks, rest}
 use Rattle.ghash.proofs.Hashing.{hash-append, hash-one}
 use Rattle.digest.specs.Digest.{Sum, fresh, absorb, settled}
 use Rattle.digest.proofs.Pieces.{sum, absorb-rest}
-
--- the bytes behind the whole blocks
-abbrev pub rest : List ℕ → List ℕ
-rest s = drop (length s / 16 * 16) s
 
 -- zeros behind s up to a whole number of blocks
 abbrev pub padding : List ℕ → List ℕ
@@ -35,13 +31,13 @@ sets-zeros s k = sets-eq s zeros 0 (rw zero-add k) ∙ rw zero-add (ap (λ (r : 
 pub rest-long : (s : List ℕ) → length (rest s) ≡ length s % 16
 rest-long s = simp length-drop (omega arith)
 
-front-long : (s : List ℕ) → length (take (length s / 16 * 16) s) ≡ length s / 16 * 16
+front-long : (s : List ℕ) → length (whole-blocks s) ≡ length s / 16 * 16
 front-long s = length-take-le (length s / 16 * 16) s (omega arith)
 
-front-whole : (s : List ℕ) → length (take (length s / 16 * 16) s) % 16 ≡ 0
+front-whole : (s : List ℕ) → length (whole-blocks s) % 16 ≡ 0
 front-whole s = rw (front-long s) (omega arith)
 
-front-rest : (s : List ℕ) → take (length s / 16 * 16) s ++ rest s ≡ s
+front-rest : (s : List ℕ) → whole-blocks s ++ rest s ≡ s
 front-rest s = take-append-drop (length s / 16 * 16) s
 
 -- less than a block is not hashed
@@ -49,11 +45,11 @@ pub hash-short : (h y s : List ℕ) → length s < 16 → hashFrom h y s ≡ y
 unfolding hashFrom blocks-of eats
 hash-short h y s k = let e : length s / 16 ≡ 0 = omega arith in rw e
 
-hash-front : (h y s : List ℕ) → hashFrom h y (take (length s / 16 * 16) s) ≡ hashFrom h y s
+pub hash-front : (h y s : List ℕ) → hashFrom h y (whole-blocks s) ≡ hashFrom h y s
 hash-front h y s =
     let k = rest-long s in
-    sym (hash-short h (hashFrom h y (take (length s / 16 * 16) s)) (rest s) (omega arith))
-    ∙ sym (hash-append h y (take (length s / 16 * 16) s) (rest s) (front-whole s))
+    sym (hash-short h (hashFrom h y (whole-blocks s)) (rest s) (omega arith))
+    ∙ sym (hash-append h y (whole-blocks s) (rest s) (front-whole s))
     ∙ ap (hashFrom h y) (front-rest s)
 
 -- ---- what is hashed, and what is held
@@ -63,7 +59,7 @@ pub absorb-fresh : (h y : List ℕ) (n : ℕ) (s : List ℕ) → n % 16 ≡ 0
 absorb-fresh h y n s z =
     let k = rest-long s in
     ap (absorb h (fresh y) n) (sym (front-rest s))
-    ∙ absorb-rest h y n (take (length s / 16 * 16) s) (rest s) z (front-whole s) (omega arith)
+    ∙ absorb-rest h y n (whole-blocks s) (rest s) z (front-whole s) (omega arith)
     ∙ ap₂ sum (hash-front h y s)
     (sets-zeros (rest s) (omega arith) ∙ ap (λ (i : ℕ). rest s ++ replicate (16 - i) 0) k)
 
@@ -94,7 +90,7 @@ settled-padded h y s = go (ℕ-discrete (length s % 16) 0)
     go (no e) =
         let n : (16 - length s % 16) % 16 ≡ 16 - length s % 16 = omega arith in
         let k : length (rest s ++ replicate (16 - length s % 16) 0) ≡ 16 = simp (length-append, rest-long, length-replicate) (omega arith) in
-        let front = take (length s / 16 * 16) s in
+        let front = whole-blocks s in
         let last = rest s ++ replicate (16 - length s % 16) 0 in
         settled-held h (absorb h (fresh y) 0 s) (length s) e
         ∙ ap (λ (u : Sum). eat h (u .hash) (u .pending)) (absorb-fresh h y 0 s refl)

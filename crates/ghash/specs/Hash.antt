@@ -45,6 +45,13 @@ blocks-of (suc m) s = take 16 s ∷ blocks-of m (drop 16 s)
 unfoldable pub hashFrom : (h y s : List ℕ) → List ℕ
 hashFrom h y s = eats h y (blocks-of (length s / 16) s)
 
+-- those blocks as a string, and the bytes behind them
+abbrev pub whole-blocks : List ℕ → List ℕ
+whole-blocks s = take (length s / 16 * 16) s
+
+abbrev pub rest : List ℕ → List ℕ
+rest s = drop (length s / 16 * 16) s
+
 -- GHASH under H: from the zero block on
 abbrev pub ghash : (h s : List ℕ) → List ℕ
 ghash h s = hashFrom h zeros s

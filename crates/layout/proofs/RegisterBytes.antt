@@ -10,7 +10,7 @@ use Rattle.words.specs.Bytes.{littles, numbers, Row, IsBlock, part}
 use Rattle.words.proofs.Rows.{row-append}
 use Rattle.words.proofs.Bytes.{littles-long, littles-below, littles-numbers, numbers-littles, numbers-row}
 use Rattle.words.proofs.Parts.{part-row, At, down, here, grow}
-use Rattle.cipher.specs.Registers.{Registers, Good}
+use Rattle.cipher.specs.Registers.{Registers, IsRegisters}
 use Rattle.layout.specs.Block.{registers-bytes, registers-at}
 
 -- a register of cells as bytes
@@ -25,7 +25,7 @@ registers-row s na nb r1 r2 r3 =
 
 -- ---- from the registers to their bytes and back
 
-module _ (s : Registers) (g : Good s) where
+module _ (s : Registers) (g : IsRegisters s) where
   pub good-row : Row 112 256 (registers-bytes s)
   good-row = registers-row s (g .cells .in-a .long) (g .cells .in-b .long) (g .in-r1) (g .in-r2) (g .in-r3)
 
@@ -68,7 +68,7 @@ module _ (s : List ℕ) (r : Row 112 256 s) where
       let g96 = grow s 80 16 {f = part 80 16 s} g80 refl in
       grow s 96 16 {f = part 96 16 s} g96 refl ∙ take-all 112 s (omega (arith, r .long))
 
-  pub at-good : Good (registers-at s)
+  pub at-good : IsRegisters (registers-at s)
   unfolding registers-at
   at-good =
       record {

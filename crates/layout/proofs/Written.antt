@@ -16,7 +16,7 @@ use Rattle.words.proofs.Parts.{At, down, here}
 use Rattle.fields.specs.Fields.{check}
 use Rattle.fields.proofs.Reading.{check-lt, check-front}
 use Rattle.fields.proofs.Zeros.{zeros-all-zero, behind-all-zero}
-use Rattle.layout.specs.Block.{Kept, registers-bytes, registers-at, body, block-of, read}
+use Rattle.layout.specs.Block.{Suspended, registers-bytes, registers-at, body, block-of, read}
 use Rattle.layout.specs.Rules.{rules, well-laid, Fine}
 use Rattle.layout.proofs.RegisterBytes.{good-row, registers-back}
 use Rattle.layout.proofs.Obeying.{ten}
@@ -35,7 +35,7 @@ one-row b h = record { long = refl; below = small }
     small zero = omega arith
     small (suc i) = lit< tt
 
-module _ (k : Kept) (f : Fine k) where
+module _ (k : Suspended) (f : Fine k) where
   body-row : Row 508 256 (body k)
   unfolding body
   body-row =

@@ -9,8 +9,8 @@ use Rattle.fields.specs.Fields.{check}
 use Rattle.cipher.specs.Registers.{Registers}
 use Rattle.digest.specs.Digest.{Sum}
 
--- what is kept of a session: H, the end pad and the current keystream block are not, since they come from walking back
-pub record Kept : Type 0 where
+-- what a block says of a session: H, the end pad and the current keystream block are not in it, since they come from walking back
+pub record Suspended : Type 0 where
   -- 0 data, 1 text
   pub phase : ℕ
   -- bytes of associated data and of text so far
@@ -36,7 +36,7 @@ registers-at s =
 
 -- bytes 0 to 507: 0 phase; 4-7 data length; 8-11 text length; 16-127 the registers; 128-143 hash so far; 144-159 bytes not yet hashed, from
 -- the left. "All other bytes are zero."
-unfoldable pub body : Kept → List ℕ
+unfoldable pub body : Suspended → List ℕ
 body k =
     (k .phase ∷ [])
     ++ replicate 3 0
@@ -49,11 +49,11 @@ body k =
     ++ replicate 348 0
 
 -- and 508-511 check
-unfoldable pub block-of : Kept → List ℕ
+unfoldable pub block-of : Suspended → List ℕ
 block-of k = body k ++ little 4 (check (body k))
 
 -- what is read from bytes
-unfoldable pub read : List ℕ → Kept
+unfoldable pub read : List ℕ → Suspended
 read b =
     record {
       phase = getD b 0 0;

@@ -10,8 +10,8 @@ use Rattle.scope.specs.Limits.{most-data, most-text}
 use Rattle.scope.specs.Refusals.{pick}
 use Rattle.words.specs.Bytes.{number, IsBlock, part}
 use Rattle.fields.specs.Fields.{all-zero, check}
-use Rattle.cipher.specs.Registers.{Good}
-use Rattle.layout.specs.Block.{Kept, read}
+use Rattle.cipher.specs.Registers.{IsRegisters}
+use Rattle.layout.specs.Block.{Suspended, read}
 
 -- "the phase's length"
 abbrev pub phase-length : (phase ad text : ℕ) → ℕ
@@ -46,13 +46,13 @@ every (b ∷ l) = b && every l
 abbrev pub well-laid : List ℕ → Bool
 well-laid b = every (rules b)
 
--- what may be kept, so that its block obeys the rules
-pub record Fine (k : Kept) : Type 0 where
+-- what may be written, so that its block obeys the rules
+pub record Fine (k : Suspended) : Type 0 where
   pub phase-is : k .phase ≤ 1
   pub ad-fits : k .ad ≤ most-data
   pub text-fits : k .text ≤ most-text
   pub text-none : k .phase ≡ 0 → k .text ≡ 0
-  pub registers-good : Good (k .registers)
+  pub registers-good : IsRegisters (k .registers)
   pub hash-block : IsBlock (k .sum .hash)
   pub pending-block : IsBlock (k .sum .pending)
   pub zeros-behind : (i : ℕ) → phase-length (k .phase) (k .ad) (k .text) % 16 ≤ i → getD (k .sum .pending) i 0 ≡ 0

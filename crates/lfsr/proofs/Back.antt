@@ -5,8 +5,7 @@ use mathlib.Core.List.{List, _∷_}
 use Prim.Native.Nat.{ℕ, zero, suc, _^_, _<_}
 use Rattle.words.specs.Xor.{_⊕_}
 use Rattle.words.proofs.XorLaws.{⊕-lt, ⊕-left, xor}
-use Rattle.lfsr.specs.declared.Lfsr.{Lfsr}
-use Rattle.lfsr.specs.Clock.{Taps, Good, cell, clock, clocks}
+use Rattle.lfsr.specs.Clock.{Lfsr, Taps, IsLfsr, cell, clock, clocks}
 use Rattle.lfsr.specs.Unclock.{oldA, oldB, untapped, unclock, unclocks}
 use Rattle.lfsr.proofs.Linear.{Linear}
 use Rattle.lfsr.proofs.Shift.{Reads, shift-take, first, shift-register, unshift-register, untapped-shift, shift-untapped, untapped-lt, fresh-lt}
@@ -62,8 +61,8 @@ module _ {t : Taps} {solved : ℕ → ℕ} (w : Lawful t solved) where
 
   -- ---- one clock
 
-  module _ (s : Lfsr) (g : Good s) where
-    pub good-clock : Good (clock t s)
+  module _ (s : Lfsr) (g : IsLfsr s) where
+    pub good-clock : IsLfsr (clock t s)
     unfolding clock
     good-clock =
         record {
@@ -96,7 +95,7 @@ module _ {t : Taps} {solved : ℕ → ℕ} (w : Lawful t solved) where
     unfolding qOf
     q-lt = untapped-lt (g .in-b) (w .reads-b)
 
-    pub good-unclock : Good (unclock t solved s)
+    pub good-unclock : IsLfsr (unclock t solved s)
     unfolding unclock pOf qOf
     good-unclock =
         record {
@@ -113,30 +112,27 @@ module _ {t : Taps} {solved : ℕ → ℕ} (w : Lawful t solved) where
 
   -- ---- k clocks
 
-  pub good-clocks : (k : ℕ) (s : Lfsr) → Good s → Good (clocks t k s)
+  pub good-clocks : (k : ℕ) (s : Lfsr) → IsLfsr s → IsLfsr (clocks t k s)
   unfolding clocks
   good-clocks zero s g = g
   good-clocks (suc k) s g = good-clock (clocks t k s) (good-clocks k s g)
 
-  pub good-unclocks : (k : ℕ) (s : Lfsr) → Good s → Good (unclocks t solved k s)
+  pub good-unclocks : (k : ℕ) (s : Lfsr) → IsLfsr s → IsLfsr (unclocks t solved k s)
   unfolding unclocks
   good-unclocks zero s g = g
   good-unclocks (suc k) s g = good-unclocks k (unclock t solved s) (good-unclock s g)
 
-  pub unclocks-clocks : (k : ℕ) (s : Lfsr) → Good s → unclocks t solved k (clocks t k s) ≡ s
+  pub unclocks-clocks : (k : ℕ) (s : Lfsr) → IsLfsr s → unclocks t solved k (clocks t k s) ≡ s
   unfolding clocks unclocks
   unclocks-clocks zero s g = refl
   unclocks-clocks (suc k) s g = ap (unclocks t solved k) (unclock-clock (clocks t k s) (good-clocks k s g)) ∙ unclocks-clocks k s g
 
-  pub clocks-unclocks : (k : ℕ) (s : Lfsr) → Good s → clocks t k (unclocks t solved k s) ≡ s
+  pub clocks-unclocks : (k : ℕ) (s : Lfsr) → IsLfsr s → clocks t k (unclocks t solved k s) ≡ s
   unfolding clocks unclocks
   clocks-unclocks zero s g = refl
   clocks-unclocks (suc k) s g = ap (clock t) (clocks-unclocks k (unclock t solved s) (good-unclock s g)) ∙ clock-unclock s g
 
-  -- ---- the clock is one-to-one: a state has at most one before it, and has one
+  -- ---- the clock is one-to-one
 
-  pub clock-one : (s u : Lfsr) → Good s → Good u → clock t s ≡ clock t u → s ≡ u
+  pub clock-one : (s u : Lfsr) → IsLfsr s → IsLfsr u → clock t s ≡ clock t u → s ≡ u
   clock-one s u g h e = sym (unclock-clock s g) ∙ ap (unclock t solved) e ∙ unclock-clock u h
-
-  pub clock-onto : (s : Lfsr) → Good s → (u : Lfsr) × Good u × (clock t u ≡ s)
-  clock-onto s g = (unclock t solved s, good-unclock s g, clock-unclock s g)

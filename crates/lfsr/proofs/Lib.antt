@@ -5,3 +5,5 @@ pub mod Back
 pub mod Window
 pub mod Unwind
 pub mod SnowV
+pub mod Typed
+pub mod OneToOne

@@ -5,9 +5,8 @@ use lib.Dec.{lit<, lit≤, T}
 use lib.ListN.{take, drop}
 use Rattle.words.specs.Xor.{_⊕_}
 use Rattle.words.proofs.XorLaws.{⊕-lt}
-use Rattle.lfsr.specs.declared.Lfsr.{Lfsr}
+use Rattle.lfsr.specs.Clock.{Lfsr, snowV, IsLfsr, clocks}
 use Rattle.lfsr.specs.Cells.{times, over, alpha, beta}
-use Rattle.lfsr.specs.Clock.{snowV, Good, clocks}
 use Rattle.lfsr.specs.Unclock.{shl, spread, solve, solvedV}
 use Rattle.lfsr.proofs.Root.{over-lt}
 use Rattle.lfsr.proofs.Linear.{Linear, agree, linear-same, linear-sum, linear-after, linear-shl, linear-bit, linear-times, agreed}
@@ -71,8 +70,8 @@ lawful-v =
     }
 
 -- eight clocks move the upper half of a register down
-pub moved-a : (s : Lfsr) → Good s → take 8 (clocks snowV 8 s .a) ≡ drop 8 (s .a)
+pub moved-a : (s : Lfsr) → IsLfsr s → take 8 (clocks snowV 8 s .a) ≡ drop 8 (s .a)
 moved-a s g = window-a lawful-v (s .a) (s .b) (g .in-a .long) (g .in-b .long)
 
-pub moved-b : (s : Lfsr) → Good s → take 8 (clocks snowV 8 s .b) ≡ drop 8 (s .b)
+pub moved-b : (s : Lfsr) → IsLfsr s → take 8 (clocks snowV 8 s .b) ≡ drop 8 (s .b)
 moved-b s g = window-b lawful-v (s .a) (s .b) (g .in-a .long) (g .in-b .long)

@@ -13,8 +13,7 @@ use lib.Seq.{getD-set-same, getD-set-other, getD-take}
 use Rattle.words.specs.Xor.{_⊕_}
 use Rattle.words.proofs.XorLaws.{⊕-lt, ⊕-twice}
 use Rattle.words.proofs.Rows.{row-take, row-append, row-set, zeros-row}
-use Rattle.lfsr.specs.declared.Lfsr.{Lfsr}
-use Rattle.lfsr.specs.Clock.{Taps, Good, cell}
+use Rattle.lfsr.specs.Clock.{Lfsr, Taps, IsLfsr, cell}
 use Rattle.lfsr.specs.Unclock.{oldA, oldB, unclocks}
 use Rattle.lfsr.proofs.Shift.{Reads, Register}
 use Rattle.lfsr.proofs.Back.{Lawful, mk, made-p, made-q, oldA-lt, oldB-lt, unclocks-clocks}
@@ -79,7 +78,7 @@ pub record Undone (t : Taps) (sa sb : List ℕ) (i : ℕ) (a b : List ℕ) : Typ
   pub in-a : Half (t .alpha) (t .tapA) sa i a b
   pub in-b : Half (t .beta) (t .tapB) sb i b a
 
-module _ {t : Taps} {solved : ℕ → ℕ} (w : Lawful t solved) (s : Lfsr) (g : Good s) where
+module _ {t : Taps} {solved : ℕ → ℕ} (w : Lawful t solved) (s : Lfsr) (g : IsLfsr s) where
   pub undone-none : Undone t (s .a) (s .b) 8 (raised (s .a)) (raised (s .b))
   undone-none =
       record { at-most = omega arith; in-a = half-none (w .reads-a) (s .a) _ (g .in-a); in-b = half-none (w .reads-b) (s .b) _ (g .in-b) }

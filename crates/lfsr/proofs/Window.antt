@@ -12,8 +12,7 @@ use lib.ListN.{length, getD, take, drop, set, length-drop, length-append, length
 use lib.Seq.{getD-drop, drop-drop, drop-append-le, take-at, ext-getD, getD-set-same, getD-set-other, getD-append-add, getD-at}
 use borrow.Author.Count.{below-more}
 use Rattle.words.specs.Xor.{_⊕_}
-use Rattle.lfsr.specs.declared.Lfsr.{Lfsr}
-use Rattle.lfsr.specs.Clock.{Taps, cell, shift, clock, clocks}
+use Rattle.lfsr.specs.Clock.{Lfsr, Taps, cell, shift, clock, clocks}
 use Rattle.lfsr.proofs.Shift.{Near, Reads}
 use Rattle.lfsr.proofs.Back.{Lawful, mk}
 

@@ -6,8 +6,11 @@ use mathlib.Core.List.{List, [], _∷_, _++_}
 use lib.ListN.{getD, drop}
 use Rattle.words.specs.Xor.{_⊕_}
 use Rattle.words.specs.Bytes.{Row}
-use Rattle.lfsr.specs.declared.Lfsr.{Lfsr}
 use Rattle.lfsr.specs.Cells.{alpha, alpha⁻¹, beta, beta⁻¹}
+
+pub record Lfsr : Type 0 where
+  pub a : List ℕ
+  pub b : List ℕ
 
 -- what a cipher of this kind chooses: the two roots, and what a new cell takes of its own register beside cell 0
 pub record Taps : Type 0 where
@@ -49,7 +52,7 @@ unfoldable pub clocks : Taps → ℕ → Lfsr → Lfsr
 clocks t zero s = s
 clocks t (suc n) s = clock t (clocks t n s)
 
--- sixteen cells in each register
-pub record Good (s : Lfsr) : Type 0 where
+-- sixteen cells of 16 bits in each register
+pub record IsLfsr (s : Lfsr) : Type 0 where
   pub in-a : Row 16 65536 (s .a)
   pub in-b : Row 16 65536 (s .b)

@@ -5,8 +5,7 @@ use Prim.Native.Nat.{ℕ, zero, suc, _-_, _*_, _/_, _%_, _^_}
 use mathlib.Core.List.{List, _∷_}
 use lib.ListN.{take}
 use Rattle.words.specs.Xor.{_⊕_}
-use Rattle.lfsr.specs.declared.Lfsr.{Lfsr}
-use Rattle.lfsr.specs.Clock.{Taps, cell}
+use Rattle.lfsr.specs.Clock.{Lfsr, Taps, cell}
 
 -- x shifted left by k, dropping what does not fit a cell
 unfoldable pub shl : ℕ → ℕ → ℕ

@@ -7,6 +7,7 @@ ghost use Rattle.lfsr.specs.Cells;
 ghost use Rattle.lfsr.specs.Clock.{snowV, clocks};
 ghost use Rattle.lfsr.specs.Unclock;
 ghost use Rattle.lfsr.specs.Unclock.{solvedV, unclocks};
+ghost use Rattle.lfsr.specs.Machine.{lfsrOf};
 
 // LFSR-A and LFSR-B.
 pub struct Lfsr {
@@ -35,7 +36,7 @@ fn fresh(c: u16, d: u16, other: u16, own: u16, near: u16, far: u16) -> u16
 
 // Eight clocks: the eight new cells of each register are made of old cells alone.
 pub fn clock8(s: Lfsr) -> Lfsr
-    ensures { λ r. ⌜ r ≡ clocks snowV 8 s ⌝ }
+    ensures { λ r. ⌜ lfsrOf r ≡ clocks snowV 8 (lfsrOf s) ⌝ }
 {
     let mut r = s;
     for i in 0..8 {
@@ -83,7 +84,7 @@ fn raised(c: [u16; 16]) -> [u16; 16]
 
 // Eight clocks back, a cell of each register at a time, from the highest.
 pub fn unclock8(s: Lfsr) -> Lfsr
-    ensures { λ r. ⌜ r ≡ unclocks snowV solvedV 8 s ⌝ }
+    ensures { λ r. ⌜ lfsrOf r ≡ unclocks snowV solvedV 8 (lfsrOf s) ⌝ }
 {
     let sa = s.a;
     let sb = s.b;

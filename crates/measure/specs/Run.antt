@@ -4,8 +4,7 @@ use mathlib.Core.List.{List}
 use lib.Dec.{eqb}
 use Rattle.scope.specs.Refusals.{granted}
 use Rattle.cipher.specs.Run.{run-part}
-use Rattle.start.specs.declared.Mode.the-variants.{Plain}
-use Rattle.start.specs.Start.{start, start-number, blank}
+use Rattle.start.specs.Start.{Mode.plain, start, start-number, blank}
 
 unfoldable pub measured : ℕ → (key iv : List ℕ) → (len : ℕ) → List ℕ
-measured back key iv len = run-part (eqb back 1) (granted (start-number key iv) (start key iv Plain) blank) len (len / 16)
+measured back key iv len = run-part (eqb back 1) (granted (start-number key iv) (start key iv plain) blank) len (len / 16)

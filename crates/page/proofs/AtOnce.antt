@@ -5,17 +5,18 @@ use mathlib.Core.List.{List, [], _++_}
 use Prim.Native.Nat.{ℕ}
 use lib.ListN.{length, drop}
 use Rattle.ghash.specs.Machine.{bytesOfElement}
-use Rattle.session.specs.declared.Session.{Session}
-use Rattle.session.specs.Sealing.{Sealing}
-use Rattle.session.specs.Machine.{sealingOf}
+use Rattle.session.specs.declared.Session as machine
+use Rattle.session.specs.Session.{Session}
+use Rattle.session.specs.Machine.{sessionOf}
 use Rattle.session.specs.Inner.{Multiples}
 use Rattle.session.specs.Calls.{Given, begin-call, data-taken, closed, text-taken, text-out}
-use Rattle.page.specs.Page.{keystream, cipher-of}
+use Rattle.start.specs.Start.{keystream}
+use Rattle.page.specs.Page.{cipher-of}
 use Rattle.page.proofs.Stages.{Stage, Stage.taking-data, Stage.taking-text, session-at, data-at, closed-at, text-taken-at, text-out-at}
 use Rattle.page.proofs.WholeCalls.{begin-call-at}
 
 module _ (key iv : List ℕ) where
-  pub begun-session : (b : Sealing) → length key ≡ 32 → length iv ≡ 16 → b ≡ begin-call key iv .session → b ≡ session-at key iv (taking-data [])
+  pub begun-session : (b : Session) → length key ≡ 32 → length iv ≡ 16 → b ≡ begin-call key iv .session → b ≡ session-at key iv (taking-data [])
   begun-session b k v e = e ∙ ap (λ (g : Given). g .session) (begin-call-at key iv k v)
 
   -- ---- the table of H
@@ -25,23 +26,23 @@ module _ (key iv : List ℕ) where
   h-at g = refl
 
   -- made for the session b, it serves s
-  pub lent : (f g : Stage) (b s : Session) (table : List ℕ) → sealingOf b ≡ session-at key iv f → sealingOf s ≡ session-at key iv g
+  pub lent : (f g : Stage) (b s : machine.Session) (table : List ℕ) → sessionOf b ≡ session-at key iv f → sessionOf s ≡ session-at key iv g
       → Multiples (bytesOfElement (b .h)) table → Multiples (bytesOfElement (s .h)) table
   lent f g b s table eb es =
-      subst (λ (h : List ℕ). Multiples h table) (ap (λ (u : Sealing). u .h) eb ∙ h-at f ∙ sym (h-at g) ∙ ap (λ (u : Sealing). u .h) (sym es))
+      subst (λ (h : List ℕ). Multiples h table) (ap (λ (u : Session). u .h) eb ∙ h-at f ∙ sym (h-at g) ∙ ap (λ (u : Session). u .h) (sym es))
 
   -- ---- data, text
 
   module _ (d : List ℕ) where
-    pub told-session : (b s : Sealing) → b ≡ session-at key iv (taking-data []) → s ≡ data-taken b d → s ≡ session-at key iv (taking-data d)
-    told-session b s eb es = es ∙ ap (λ (u : Sealing). data-taken u d) eb ∙ data-at key iv [] d
+    pub told-session : (b s : Session) → b ≡ session-at key iv (taking-data []) → s ≡ data-taken b d → s ≡ session-at key iv (taking-data d)
+    told-session b s eb es = es ∙ ap (λ (u : Session). data-taken u d) eb ∙ data-at key iv [] d
 
-    pub closed-session : (s u : Sealing) → s ≡ session-at key iv (taking-data d) → u ≡ closed s → u ≡ session-at key iv (taking-text d [])
+    pub closed-session : (s u : Session) → s ≡ session-at key iv (taking-data d) → u ≡ closed s → u ≡ session-at key iv (taking-text d [])
     closed-session s u es eu = eu ∙ ap closed es ∙ closed-at key iv (taking-data d)
 
-    module _ (s : Sealing) (e : s ≡ session-at key iv (taking-text d [])) (t out after : List ℕ) where
-      pub whole-session : (u : Sealing) → u ≡ text-taken s t → u ≡ session-at key iv (taking-text d t)
-      whole-session u eu = eu ∙ ap (λ (v : Sealing). text-taken v t) e ∙ text-taken-at key iv d [] t
+    module _ (s : Session) (e : s ≡ session-at key iv (taking-text d [])) (t out after : List ℕ) where
+      pub whole-session : (u : Session) → u ≡ text-taken s t → u ≡ session-at key iv (taking-text d t)
+      whole-session u eu = eu ∙ ap (λ (v : Session). text-taken v t) e ∙ text-taken-at key iv d [] t
 
       pub whole-out : after ≡ text-out s t ++ drop (length t) out → after ≡ cipher-of key iv t ++ drop (length t) out
-      whole-out eo = eo ∙ ap (λ (v : Sealing). text-out v t ++ drop (length t) out) e ∙ ap (λ (l : List ℕ). l ++ drop (length t) out) (text-out-at key iv d [] t)
+      whole-out eo = eo ∙ ap (λ (v : Session). text-out v t ++ drop (length t) out) e ∙ ap (λ (l : List ℕ). l ++ drop (length t) out) (text-out-at key iv d [] t)

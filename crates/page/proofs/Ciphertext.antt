@@ -11,14 +11,13 @@ use Rattle.words.specs.Xor.{_⊕_}
 use Rattle.words.specs.Bytes.{Row, IsBlock}
 use Rattle.words.proofs.Rows.{Below}
 use Rattle.words.proofs.XorLaws.{⊕-lt, xor}
-use Rattle.cipher.specs.Registers.{Good}
+use Rattle.cipher.specs.Registers.{IsRegisters}
 use Rattle.cipher.specs.Run.{forward, moves}
 use Rattle.cipher.proofs.Inverse.{z-block}
 use Rattle.cipher.proofs.Moves.{moves-good}
-use Rattle.start.specs.declared.Mode.the-variants.{Sealed}
-use Rattle.start.specs.Start.{start}
+use Rattle.start.specs.Start.{Mode.sealed, start, keystream}
 use Rattle.start.proofs.Undo.{start-good}
-use Rattle.page.specs.Page.{keystream, encrypted, cipher-of}
+use Rattle.page.specs.Page.{encrypted, cipher-of}
 
 -- the keystream's byte for byte i of the text
 abbrev pub stream-byte : (key iv : List ℕ) → ℕ → ℕ
@@ -56,11 +55,11 @@ module _ (key iv : List ℕ) where
 -- ---- bytes stay bytes
 
 module _ (key iv : List ℕ) (k : Row 32 256 key) (v : IsBlock iv) where
-  pub drawn-good : (n : ℕ) → Good (moves forward n (start key iv Sealed))
-  drawn-good n = moves-good forward n (start key iv Sealed) (start-good key k iv Sealed v)
+  pub drawn-good : (n : ℕ) → IsRegisters (moves forward n (start key iv sealed))
+  drawn-good n = moves-good forward n (start key iv sealed) (start-good key k iv sealed v)
 
   pub stream-block : (n : ℕ) → IsBlock (keystream key iv n)
-  stream-block n = z-block (moves forward n (start key iv Sealed)) (drawn-good n)
+  stream-block n = z-block (moves forward n (start key iv sealed)) (drawn-good n)
 
   pub encrypted-below : (i : ℕ) (t : List ℕ) → Below 256 t → Below 256 (encrypted key iv i t)
   unfolding encrypted

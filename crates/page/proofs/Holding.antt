@@ -8,12 +8,14 @@ use lib.ListN.{length, getD, replicate}
 use lib.Seq.{getD-append-add}
 use Rattle.words.specs.Bytes.{Row, IsBlock, zeros}
 use Rattle.words.proofs.Rows.{Below, zeros-block}
-use Rattle.cipher.specs.Registers.{Good}
+use Rattle.cipher.specs.Registers.{IsRegisters}
 use Rattle.digest.specs.Digest.{fresh, absorb}
-use Rattle.digest.proofs.Settling.{rest, rest-long, absorb-pending}
-use Rattle.digest.proofs.Kept.{absorb-hash-block, absorb-pending-block, settled-block}
-use Rattle.session.specs.Sealing.{drawn-at}
-use Rattle.page.specs.Page.{keystream, cipher-of}
+use Rattle.ghash.specs.Hash.{rest}
+use Rattle.digest.proofs.Settling.{rest-long, absorb-pending}
+use Rattle.digest.proofs.Preserved.{absorb-hash-block, absorb-pending-block, settled-block}
+use Rattle.session.specs.Session.{drawn-at}
+use Rattle.start.specs.Start.{keystream}
+use Rattle.page.specs.Page.{cipher-of}
 use Rattle.page.proofs.Phases.{ad-sum}
 use Rattle.page.proofs.Ciphertext.{cipher-length, cipher-below, drawn-good}
 use Rattle.page.proofs.Stages.{Stage, Stage.taking-data, Stage.taking-text, ad-of, text-of, sum-at, session-at}
@@ -54,7 +56,7 @@ module _ (key iv : List ℕ) where
       absorb-hash-block h _ 0 (cipher-of key iv t) (settled-block h (ad-sum h d) (length d) (absorb-hash-block h (fresh zeros) 0 d zeros-block))
 
   module _ (k : Row 32 256 key) (v : IsBlock iv) where
-    pub registers-good : (g : Stage) → Good (session-at key iv g .registers)
+    pub registers-good : (g : Stage) → IsRegisters (session-at key iv g .registers)
     unfolding session-at
     registers-good g = drawn-good key iv k v (drawn-at (length (text-of g)))
 

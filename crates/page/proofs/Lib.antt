@@ -8,3 +8,4 @@ pub mod Holding
 pub mod Answers
 pub mod Refusing
 pub mod Checking
+pub mod Reached

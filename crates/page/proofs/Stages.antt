@@ -15,13 +15,12 @@ use Rattle.words.specs.Bytes.{zeros}
 use Rattle.cipher.specs.Registers.{Registers}
 use Rattle.cipher.specs.Step.{step}
 use Rattle.cipher.specs.Run.{forward, move, moves}
-use Rattle.start.specs.declared.Mode.the-variants.{Sealed}
-use Rattle.start.specs.Start.{start}
+use Rattle.start.specs.Start.{Mode.sealed, start, keystream}
 use Rattle.digest.specs.Digest.{Sum, fresh, push, absorb, settled}
 use Rattle.digest.proofs.Pieces.{absorb-append, absorb-one}
-use Rattle.session.specs.Sealing.{Sealing, ceil16, drawn-at}
+use Rattle.session.specs.Session.{Session, ceil16, drawn-at}
 use Rattle.session.specs.Calls.{begun, data-taken, closed, byte-current, byte-out, byte-taken, text-taken, text-out}
-use Rattle.page.specs.Page.{keystream, encrypted, cipher-of}
+use Rattle.page.specs.Page.{encrypted, cipher-of}
 use Rattle.page.proofs.Phases.{ad-sum, text-sum}
 use Rattle.page.proofs.Ciphertext.{stream-byte, encrypted-append, encrypted-one, encrypted-length}
 
@@ -48,13 +47,13 @@ module _ (key iv : List ℕ) where
   sum-at (taking-text d t) = text-sum (keystream key iv 0) d (cipher-of key iv t)
 
   -- the session: as many blocks are drawn as the text needs, and the current one is the block drawn last
-  unfoldable pub session-at : Stage → Sealing
+  unfoldable pub session-at : Stage → Session
   session-at g =
       record {
         phase = phase-at g;
         ad = length (ad-of g);
         text = length (text-of g);
-        registers = moves forward (drawn-at (length (text-of g))) (start key iv Sealed);
+        registers = moves forward (drawn-at (length (text-of g))) (start key iv sealed);
         h = keystream key iv 0;
         pad = keystream key iv 1;
         current = keystream key iv (1 + ceil16 (length (text-of g)));
@@ -74,7 +73,7 @@ module _ (key iv : List ℕ) where
         phase = 0;
         ad = sym (length-append d p) i;
         text = 0;
-        registers = moves forward (drawn-at 0) (start key iv Sealed);
+        registers = moves forward (drawn-at 0) (start key iv sealed);
         h = keystream key iv 0;
         pad = keystream key iv 1;
         current = keystream key iv (1 + ceil16 0);
@@ -126,10 +125,10 @@ module _ (key iv : List ℕ) where
             let n : drawn-at (length t) ≡ drawn-at (length t + 1) = omega arith in
             rw e (ap r n)
 
-    registers-next : pick (eqb (length t % 16) 0) (step (moves forward (drawn-at (length t)) (start key iv Sealed))) (moves forward (drawn-at (length t)) (start key iv Sealed))
-        ≡ moves forward (drawn-at (length t + 1)) (start key iv Sealed)
+    registers-next : pick (eqb (length t % 16) 0) (step (moves forward (drawn-at (length t)) (start key iv sealed))) (moves forward (drawn-at (length t)) (start key iv sealed))
+        ≡ moves forward (drawn-at (length t + 1)) (start key iv sealed)
     unfolding moves move
-    registers-next = drawn-next (λ n. moves forward n (start key iv Sealed)) (λ n. refl)
+    registers-next = drawn-next (λ n. moves forward n (start key iv sealed)) (λ n. refl)
 
     module _ (b : ℕ) where
       -- one byte more of the ciphertext
@@ -163,7 +162,7 @@ module _ (key iv : List ℕ) where
             phase = 1;
             ad = length d;
             text = one i;
-            registers = (registers-next ∙ ap (λ (n : ℕ). moves forward (drawn-at n) (start key iv Sealed)) one) i;
+            registers = (registers-next ∙ ap (λ (n : ℕ). moves forward (drawn-at n) (start key iv sealed)) one) i;
             h = keystream key iv 0;
             pad = keystream key iv 1;
             current = (current-at ∙ ap (keystream key iv) c ∙ ap (λ (n : ℕ). keystream key iv (1 + ceil16 n)) one) i;
@@ -174,7 +173,7 @@ module _ (key iv : List ℕ) where
   unfolding text-taken
   text-taken-at d t [] = ap (λ (u : List ℕ). session-at (taking-text d u)) (sym (append-nil t))
   text-taken-at d t (b ∷ p) =
-      ap (λ (s : Sealing). text-taken s p) (byte-taken-at d t b)
+      ap (λ (s : Session). text-taken s p) (byte-taken-at d t b)
       ∙ text-taken-at d (t ++ (b ∷ [])) p
       ∙ ap (λ (u : List ℕ). session-at (taking-text d u)) (append-assoc t (b ∷ []) p)
 
@@ -184,6 +183,6 @@ module _ (key iv : List ℕ) where
   text-out-at d t [] = refl
   text-out-at d t (b ∷ p) =
       ap₂ (λ (x : ℕ) (l : List ℕ). x ∷ l) (byte-at d t b)
-      (ap (λ (s : Sealing). text-out s p) (byte-taken-at d t b)
+      (ap (λ (s : Session). text-out s p) (byte-taken-at d t b)
       ∙ text-out-at d (t ++ (b ∷ [])) p
       ∙ ap (λ (n : ℕ). encrypted key iv n p) (length-append t (b ∷ [])))

@@ -11,9 +11,10 @@ use Rattle.ghash.specs.Hash.{lengths, eat}
 use Rattle.ghash.proofs.BigEndian.{bigs-long}
 use Rattle.ghash.proofs.Hashing.{hashFrom-block}
 use Rattle.digest.specs.Digest.{settled}
-use Rattle.session.specs.Sealing.{Sealing}
+use Rattle.session.specs.Session.{Session}
 use Rattle.session.specs.Calls.{closed, tag-of}
-use Rattle.page.specs.Page.{keystream, cipher-of, padded, tag-for, page-tag}
+use Rattle.start.specs.Start.{keystream}
+use Rattle.page.specs.Page.{cipher-of, padded, tag-for, page-tag}
 use Rattle.page.proofs.Phases.{text-sum, phases}
 use Rattle.page.proofs.Ciphertext.{cipher-length, stream-block}
 use Rattle.page.proofs.Stages.{Stage, ad-of, text-of, sum-at, session-at, closed-at}
@@ -37,7 +38,7 @@ module _ (key iv : List ℕ) where
 
   closed-sum : (g : Stage) → closed (session-at key iv g) .sum ≡ text-sum (keystream key iv 0) (ad-of g) (cipher-of key iv (text-of g))
   unfolding session-at sum-at
-  closed-sum g = ap (λ (s : Sealing). s .sum) (closed-at key iv g)
+  closed-sum g = ap (λ (s : Session). s .sum) (closed-at key iv g)
 
   pub tag-at : (g : Stage) → tag-of (session-at key iv g) ≡ page-tag key iv (ad-of g) (text-of g)
   unfolding tag-of session-at

@@ -1,3 +1,4 @@
 pub mod Page
 pub mod Calls
+pub mod Reached
 pub mod Inner

@@ -5,14 +5,7 @@ use mathlib.Core.List.{List, [], _∷_, _++_}
 use lib.ListN.{getD, length, replicate}
 use Rattle.words.specs.Xor.{_⊕_, xors}
 use Rattle.ghash.specs.Hash.{lengths, ghash}
-use Rattle.cipher.specs.Step.{z}
-use Rattle.cipher.specs.Run.{forward, moves}
-use Rattle.start.specs.declared.Mode.the-variants.{Sealed}
-use Rattle.start.specs.Start.{start}
-
--- block i of the keystream
-abbrev pub keystream : (key iv : List ℕ) → ℕ → List ℕ
-keystream key iv i = z (moves forward i (start key iv Sealed))
+use Rattle.start.specs.Start.{keystream}
 
 -- byte i of a text is xored with byte i mod 16 of block 2 + i / 16; here from byte i on
 unfoldable pub encrypted : (key iv : List ℕ) → ℕ → List ℕ → List ℕ

@@ -3,7 +3,7 @@ ghost use mathlib.Core.Path.{_≡_};
 ghost use Rattle.words.specs.Bytes.{zeros};
 ghost use Rattle.words.specs.Machine.{bytesOf};
 ghost use Rattle.ghash.specs.Machine.{bytesOfElement};
-ghost use Rattle.session.specs.Machine.{sealingOf};
+ghost use Rattle.session.specs.Machine.{sessionOf};
 ghost use Rattle.session.specs.Inner.{Multiples};
 ghost use Rattle.page.specs.Calls.{seal-number, seal-out, seal-tag, open-number, open-out};
 ghost use Rattle.page.specs.Inner.{tag-over};
@@ -63,7 +63,7 @@ pub fn seal(key: &[u8], iv: &[u8], ad: &[u8], text: &[u8], out: &mut [u8]) -> Se
 // The tag of a session whose data is closed, over a ciphertext that is read and not written.
 fn tag_over(s: Session, cipher: &[u8], table: &[u64; 1024]) -> Block
     requires { ⌜ Multiples (bytesOfElement (s .h)) (now table) ⌝ }
-    ensures { λ r. ⌜ bytesOf r ≡ tag-over (sealingOf s) (now (cipher .entry)) ⌝ }
+    ensures { λ r. ⌜ bytesOf r ≡ tag-over (sessionOf s) (now (cipher .entry)) ⌝ }
 {
     let h = s.h;
     let d = s.held;

@@ -114,7 +114,7 @@ fn plain(key: &[u8], iv: &[u8]) -> State {
 fn plain_state(key: &[u8], iv: &[u8]) {
     let s = with_data(key, iv);
     let mut block = block_of(s);
-    kept::put_state(&mut block, 16, plain(key, iv));
+    suspended::put_state(&mut block, 16, plain(key, iv));
     line(b"state of plain mode", checked(key, &mut block));
 }
 

@@ -6,7 +6,7 @@ use mathlib.Core.Bool.{true, false}
 use native.Mathlib.Omega.{arith}
 use borrow.Author.Tests.{lt-ltb, le-ltb, le-leb, lt-leb}
 use Rattle.scope.specs.Limits.{last-day, kept-days}
-use Rattle.retention.specs.Keeping.{Answer.decided, Answer.refused, keeping}
+use Rattle.retention.specs.Keeping.{Verdict.decided, Verdict.refused, keeping}
 
 module _ (today departure : ℕ) where
   pub today-out : last-day < today → refused 12 ≡ keeping today departure

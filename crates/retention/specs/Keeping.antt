@@ -7,15 +7,15 @@ use Rattle.scope.specs.Limits.{last-day, kept-days}
 use Rattle.scope.specs.Refusals.{pick, day-range}
 
 -- whether the page is kept, or a refusal
-pub data Answer : Type 0 where
-  decided : (kept : Bool) → Answer
-  refused : ℕ → Answer
+pub data Verdict : Type 0 where
+  decided : (kept : Bool) → Verdict
+  refused : ℕ → Verdict
 
 -- "today minus departure is at most 548 (negative included)", with the departure on the other side
 abbrev pub in-time : (today departure : ℕ) → Bool
 in-time today departure = leb today (departure + kept-days)
 
 -- 12, for either day
-unfoldable pub keeping : (today departure : ℕ) → Answer
+unfoldable pub keeping : (today departure : ℕ) → Verdict
 keeping today departure =
     pick (ltb last-day today || ltb last-day departure) (refused day-range) (decided (in-time today departure))

@@ -1,10 +1,10 @@
 -- Document 01's number and value for each case of the code's answer.
 use mathlib.Core.Bool.{true, false}
-use Rattle.retention.specs.declared.Verdict.{Verdict}
+use Rattle.retention.specs.declared.Verdict as machine
 use Rattle.retention.specs.declared.Verdict.the-variants.{Kept, NotKept, Refused}
-use Rattle.retention.specs.Keeping.{Answer, Answer.decided, Answer.refused}
+use Rattle.retention.specs.Keeping.{Verdict, Verdict.decided, Verdict.refused}
 
-abbrev pub answerOf : Verdict → Answer
-answerOf Kept = decided true
-answerOf NotKept = decided false
-answerOf (Refused n) = refused n
+abbrev pub verdictOf : machine.Verdict → Verdict
+verdictOf Kept = decided true
+verdictOf NotKept = decided false
+verdictOf (Refused n) = refused n

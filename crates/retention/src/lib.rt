@@ -1,7 +1,7 @@
 // The keeping rule: whether a page is still kept on a day.
 ghost use mathlib.Core.Path.{_≡_};
 ghost use Rattle.retention.specs.Keeping.{keeping};
-ghost use Rattle.retention.specs.Machine.{answerOf};
+ghost use Rattle.retention.specs.Machine.{verdictOf};
 
 pub enum Verdict {
     Kept,
@@ -11,7 +11,7 @@ pub enum Verdict {
 
 // Whether a page is kept today, by the day of its departure. Days count from 1 January 2000 as 0. Refused: 12 for either day after 73,048.
 pub fn kept(today: u64, departure: u64) -> Verdict
-    ensures { λ r. ⌜ answerOf r ≡ keeping today departure ⌝ }
+    ensures { λ r. ⌜ verdictOf r ≡ keeping today departure ⌝ }
 {
     if today > scope::LAST_DAY {
         return Verdict::Refused(scope::DAY_RANGE);

@@ -25,7 +25,7 @@ key-length = 1
 abbrev pub iv-length : ℕ
 iv-length = 2
 
--- 3 book full: data or text over its limit, counted over the session
+-- 3 book full: associated data over 65,535 bytes or text over 1,048,576, counted over the session
 abbrev pub too-long : ℕ
 too-long = 3
 
@@ -37,19 +37,19 @@ short-output = 4
 abbrev pub bad-tag : ℕ
 bad-tag = 5
 
--- 6 not ours: no IV and mode lead to this state
+-- 6 not ours: no IV and mode lead to this state; at resume (document 01: take up), none in sealed mode
 abbrev pub no-origin : ℕ
 no-origin = 6
 
--- 7 late entry: the call is out of phase
+-- 7 late entry: the call is out of phase, after finish every call
 abbrev pub out-of-phase : ℕ
 out-of-phase = 7
 
--- 8 torn block: a suspended session's block breaks a layout rule
+-- 8 torn block: a suspended session's block (document 01: a parked block) breaks a layout rule
 abbrev pub bad-block : ℕ
 bad-block = 8
 
--- 9 too far: the block count is over its limit
+-- 9 too far: a block count over 65,538
 abbrev pub count-too-high : ℕ
 count-too-high = 9
 

@@ -5,18 +5,17 @@ use Prim.Native.Nat.{ℕ}
 use borrow.Author.Tests.{ne-eqb}
 use Rattle.scope.specs.Refusals.{granted}
 use Rattle.cipher.specs.Registers.{Registers}
-use Rattle.start.specs.declared.Mode.the-variants.{Sealed}
-use Rattle.start.specs.Start.{start, start-number}
-use Rattle.session.specs.Calls.{begun-from, begun, nobody, begin-call}
+use Rattle.start.specs.Start.{Mode.sealed, start, start-number}
+use Rattle.session.specs.Calls.{begun-from, begun, no-session, begin-call}
 
 pub granted-state : (n : ℕ) (s t : Registers) → n ≡ 0 → granted n s t ≡ s
 granted-state n s t e = rw e
 
 module _ (key iv : List ℕ) where
-  pub refused-session : ¬ (start-number key iv ≡ 0) → begin-call key iv .session ≡ nobody
+  pub refused-session : ¬ (start-number key iv ≡ 0) → begin-call key iv .session ≡ no-session
   unfolding begin-call
   refused-session h = rw (ne-eqb (start-number key iv) 0 h)
 
-  pub granted-session : start-number key iv ≡ 0 → begin-call key iv .session ≡ begun-from (start key iv Sealed)
+  pub granted-session : start-number key iv ≡ 0 → begin-call key iv .session ≡ begun-from (start key iv sealed)
   unfolding begin-call begun
   granted-session e = rw e

@@ -9,12 +9,12 @@ use lib.ListN.{length, drop}
 use lib.Seq.{sets, sets-eq, length-sets, slice, slice-empty, length-slice}
 use Rattle.words.proofs.Rows.{sets-append}
 use Rattle.digest.proofs.Slices.{slice-split, slice-all, headOf, tailOf}
-use Rattle.session.specs.Sealing.{Sealing}
+use Rattle.session.specs.Session.{Session}
 use Rattle.session.specs.Calls.{text-taken, text-out}
 use Rattle.session.proofs.Pieces.{text-none, out-none, text-append, out-append, out-length, text-count, text-h}
 
 -- the session was s and the output o; they are u and out
-pub record Going (s : Sealing) (p o : List ℕ) (from to : ℕ) (out : List ℕ) (u : Sealing) (i : ℕ) : Type 0 where
+pub record Going (s : Session) (p o : List ℕ) (from to : ℕ) (out : List ℕ) (u : Session) (i : ℕ) : Type 0 where
   pub bound : i ≤ to
   pub counts : u .text + (to - i) ≡ s .text + (to - from)
   pub key : u .h ≡ s .h
@@ -22,12 +22,12 @@ pub record Going (s : Sealing) (p o : List ℕ) (from to : ℕ) (out : List ℕ)
   pub session : text-taken u (slice i to p) ≡ text-taken s (slice from to p)
   pub output : sets out i (text-out u (slice i to p)) ≡ sets o from (text-out s (slice from to p))
 
-pub none : (s : Sealing) (p o : List ℕ) (from to : ℕ) → from ≤ to → Going s p o from to o s from
+pub none : (s : Session) (p o : List ℕ) (from to : ℕ) → from ≤ to → Going s p o from to o s from
 none s p o from to h = record { bound = h; counts = refl; key = refl; size = refl; session = refl; output = refl }
 
-module _ {s : Sealing} {p o : List ℕ} {from to : ℕ} {out : List ℕ} {u : Sealing} {i : ℕ} (g : Going s p o from to out u i) where
+module _ {s : Session} {p o : List ℕ} {from to : ℕ} {out : List ℕ} {u : Session} {i : ℕ} (g : Going s p o from to out u i) where
   -- the part from i up to m is done
-  pub more : (out′ : List ℕ) (u′ : Sealing) (m : ℕ) → i ≤ m → m ≤ to → to ≤ length p → u′ ≡ text-taken u (slice i m p)
+  pub more : (out′ : List ℕ) (u′ : Session) (m : ℕ) → i ≤ m → m ≤ to → to ≤ length p → u′ ≡ text-taken u (slice i m p)
       → out′ ≡ sets out i (text-out u (slice i m p)) → Going s p o from to out′ u′ m
   more out′ u′ m him hmt ht eu eo =
       let cut : slice i to p ≡ slice i m p ++ slice m to p = slice-split i m to p him hmt ht in
@@ -99,7 +99,7 @@ ends t v n q e =
 
 -- ---- all of the piece, and the output behind it
 
-pub whole : {s : Sealing} {p o : List ℕ} {out : List ℕ} {u : Sealing} {i : ℕ} → Going s p o 0 (length p) out u i → i ≡ length p → length p ≤ length o
+pub whole : {s : Session} {p o : List ℕ} {out : List ℕ} {u : Session} {i : ℕ} → Going s p o 0 (length p) out u i → i ≡ length p → length p ≤ length o
     → (u ≡ text-taken s p) × (out ≡ text-out s p ++ drop (length p) o)
 whole {s} {p} {o} g e h =
     let n = out-length s p in (

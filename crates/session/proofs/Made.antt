@@ -15,62 +15,62 @@ use Rattle.ghash.proofs.Elements.{Halves, number-bytes}
 use Rattle.cipher.specs.Step.{z}
 use Rattle.cipher.specs.Machine.{registersOf}
 use Rattle.digest.specs.Digest.{fresh}
-use Rattle.session.specs.declared.Session.{Session}
+use Rattle.session.specs.declared.Session as machine
 use Rattle.session.specs.declared.Lane.{Lane}
-use Rattle.session.specs.Sealing.{Sealing}
+use Rattle.session.specs.Session.{Session}
 use Rattle.session.specs.Calls.{text-taken, text-out}
-use Rattle.session.specs.Machine.{sealingOf}
+use Rattle.session.specs.Machine.{sessionOf}
 use Rattle.session.specs.Inner.{ready, masked, counted, holding, held, Track, trackOf, block-taken, Multiples}
 use Rattle.session.proofs.Within.{within-out, within-few, within-full, block-out, block-taken-is}
 
 -- ---- text of one block: u is the session made ready, q what it then holds of the text p
 
-module _ (s u : Sealing) (p key : List ℕ) (eu : u ≡ ready s) (ek : key ≡ u .current) where
+module _ (s u : Session) (p key : List ℕ) (eu : u ≡ ready s) (ek : key ≡ u .current) where
   pub held-session : (q : List ℕ) (m : ℕ) → length p ≡ m → q ≡ sets (u .sum .pending) (u .text % 16) (xors p (drop (u .text % 16) key))
       → holding u q m ≡ held (ready s) p
   unfolding held
   held-session q m en eq =
       ap₂ (holding u) (eq ∙ ap (λ (k : List ℕ). sets (u .sum .pending) (u .text % 16) (xors p (drop (u .text % 16) k))) ek) (sym en)
-      ∙ ap (λ (v : Sealing). holding v (sets (v .sum .pending) (v .text % 16) (masked v p)) (length p)) eu
+      ∙ ap (λ (v : Session). holding v (sets (v .sum .pending) (v .text % 16) (masked v p)) (length p)) eu
 
   pub held-out : (o o₁ : List ℕ) (from : ℕ) → o₁ ≡ sets o from (xors p (drop (u .text % 16) key)) → o₁ ≡ sets o from (masked (ready s) p)
   held-out o o₁ from eo =
-      eo ∙ ap (λ (k : List ℕ). sets o from (xors p (drop (u .text % 16) k))) ek ∙ ap (λ (v : Sealing). sets o from (masked v p)) eu
+      eo ∙ ap (λ (k : List ℕ). sets o from (xors p (drop (u .text % 16) k))) ek ∙ ap (λ (v : Session). sets o from (masked v p)) eu
 
 -- ---- the same as the definition has it: r is the session that holds the text, or has sent its block on
 
-pub held-long : (s : Sealing) (r : Session) (p : List ℕ) → sealingOf r ≡ held (ready s) p → length (r .held .pending) ≡ length (s .sum .pending)
+pub held-long : (s : Session) (r : machine.Session) (p : List ℕ) → sessionOf r ≡ held (ready s) p → length (r .held .pending) ≡ length (s .sum .pending)
 unfolding held ready
-held-long s r p er = ap (λ (v : Sealing). length (v .sum .pending)) er ∙ simp length-sets
+held-long s r p er = ap (λ (v : Session). length (v .sum .pending)) er ∙ simp length-sets
 
-module _ (s : Sealing) (r : Session) (p : List ℕ) (er : sealingOf r ≡ held (ready s) p) (some : 0 < length p) where
+module _ (s : Session) (r : machine.Session) (p : List ℕ) (er : sessionOf r ≡ held (ready s) p) (some : 0 < length p) where
   ready-long : length (ready s .current) ≡ 16
   unfolding held
-  ready-long = ap (λ (v : Sealing). length (v .current)) (sym er) ∙ bytesOf-block (r .current) .long
+  ready-long = ap (λ (v : Session). length (v .current)) (sym er) ∙ bytesOf-block (r .current) .long
 
-  pub few-session : s .text % 16 + length p < 16 → sealingOf r ≡ text-taken s p
+  pub few-session : s .text % 16 + length p < 16 → sessionOf r ≡ text-taken s p
   few-session h = er ∙ sym (within-few s p some ready-long (omega arith) h)
 
   pub part-out : s .text % 16 + length p ≤ 16 → (o o₁ : List ℕ) (from : ℕ) → o₁ ≡ sets o from (masked (ready s) p) → o₁ ≡ sets o from (text-out s p)
   part-out h o o₁ from eo = eo ∙ ap (sets o from) (sym (within-out s p some ready-long h))
 
   -- y is the hash once the bytes held are sent on
-  pub full-session : s .text % 16 + length p ≡ 16 → (y : List ℕ) → y ≡ eat (s .h) (sealingOf r .sum .hash) (r .held .pending)
-      → counted (sealingOf r) (r .text) (fresh y) ≡ text-taken s p
+  pub full-session : s .text % 16 + length p ≡ 16 → (y : List ℕ) → y ≡ eat (s .h) (sessionOf r .sum .hash) (r .held .pending)
+      → counted (sessionOf r) (r .text) (fresh y) ≡ text-taken s p
   unfolding held ready
   full-session h y ey =
-      ap (λ (x : List ℕ). counted (sealingOf r) (r .text) (fresh x)) ey
-      ∙ ap (λ (v : Sealing). counted v (v .text) (fresh (eat (s .h) (v .sum .hash) (v .sum .pending)))) er
+      ap (λ (x : List ℕ). counted (sessionOf r) (r .text) (fresh x)) ey
+      ∙ ap (λ (v : Session). counted v (v .text) (fresh (eat (s .h) (v .sum .hash) (v .sum .pending)))) er
       ∙ sym (within-full s p some ready-long (omega arith) h)
 
 -- ---- whole blocks: the session s with the track t, at n bytes of text
 
-abbrev pub riding : Sealing → Track → ℕ → Sealing
+abbrev pub riding : Session → Track → ℕ → Session
 riding s t n =
     record { phase = s .phase; ad = s .ad; text = n; registers = t .registers; h = s .h; pad = s .pad; current = t .current; sum = t .sum }
 
 -- a turn of the loop, which makes the lane r of l
-module _ (s : Sealing) (l r : Lane) (n : ℕ) (p : List ℕ) (er : trackOf r ≡ block-taken (s .h) (trackOf l) p) (start : n % 16 ≡ 0) (long : length p ≡ 16) where
+module _ (s : Session) (l r : Lane) (n : ℕ) (p : List ℕ) (er : trackOf r ≡ block-taken (s .h) (trackOf l) p) (start : n % 16 ≡ 0) (long : length p ≡ 16) where
   drawn-long : length (z (registersOf (l .state))) ≡ 16
   drawn-long = ap (λ (t : Track). length (t .current)) (sym er) ∙ bytesOf-block (r .z) .long
 

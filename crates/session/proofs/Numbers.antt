@@ -9,13 +9,13 @@ use Rattle.scope.specs.Limits.{most-data, most-text}
 use Rattle.words.specs.Bytes.{zeros}
 use Rattle.ghash.specs.Hash.{bigs}
 use Rattle.ghash.proofs.BigEndian.{bigs-append}
-use Rattle.session.specs.declared.Session.{Session}
+use Rattle.session.specs.declared.Session as machine
 use Rattle.session.specs.declared.Said.{Said}
-use Rattle.session.specs.Sealing.{Sealing}
-use Rattle.session.specs.Machine.{sealingOf, Says}
+use Rattle.session.specs.Session.{Session}
+use Rattle.session.specs.Machine.{sessionOf, Says}
 use Rattle.session.specs.Calls.{data-number, data-taken, data-call, closed, text-taken, text-out, text-number, text-call, finish-number, tag-of, finished, finish-call}
 
-module _ (s : Sealing) (p : List ℕ) where
+module _ (s : Session) (p : List ℕ) where
   pub data-late : ¬ (s .phase ≡ 0) → data-number s p ≡ 7
   unfolding data-number
   data-late h = rw (ne-eqb (s .phase) 0 h)
@@ -28,7 +28,7 @@ module _ (s : Sealing) (p : List ℕ) where
   unfolding data-number
   data-fits h k = rw (eq-eqb (s .phase) 0 h, le-ltb most-data (s .ad + length p) k)
 
-module _ (s : Sealing) (p out : List ℕ) where
+module _ (s : Session) (p out : List ℕ) where
   pub text-late : 2 ≤ s .phase → text-number s p out ≡ 7
   unfolding text-number
   text-late h = rw (le-ltb (s .phase) 2 h)
@@ -45,11 +45,11 @@ module _ (s : Sealing) (p out : List ℕ) where
   unfolding text-number
   text-fits h k r = rw (lt-ltb (s .phase) 2 h, le-ltb most-text (s .text + length p) k, le-ltb (length out) (length p) r)
 
-pub finish-late : (s : Sealing) → 2 ≤ s .phase → finish-number s ≡ 7
+pub finish-late : (s : Session) → 2 ≤ s .phase → finish-number s ≡ 7
 unfolding finish-number
 finish-late s h = rw (le-ltb (s .phase) 2 h)
 
-pub finish-due : (s : Sealing) → s .phase < 2 → finish-number s ≡ 0
+pub finish-due : (s : Session) → s .phase < 2 → finish-number s ≡ 0
 unfolding finish-number
 finish-due s h = rw (lt-ltb (s .phase) 2 h)
 
@@ -62,7 +62,7 @@ bits-low n =
 
 -- ---- what the calls then give
 
-module _ (s : Sealing) (p : List ℕ) where
+module _ (s : Session) (p : List ℕ) where
   pub data-refused : (n : ℕ) → data-number s p ≡ suc n → data-call s p .session ≡ s
   unfolding data-call
   data-refused n e = rw (e, ne-eqb (suc n) 0 (λ z. omega arith))
@@ -72,20 +72,20 @@ module _ (s : Sealing) (p : List ℕ) where
   data-accepted e = rw e
 
 -- the two things that a text call ensures
-abbrev pub Answered : (s : Sealing) (p out : List ℕ) → Said → (after : List ℕ) → Type 0
+abbrev pub Answered : (s : Session) (p out : List ℕ) → Said → (after : List ℕ) → Type 0
 Answered s p out r after = Says (text-call s p out) r × (after ≡ text-call s p out .out)
 
-module _ (s : Session) (p out : List ℕ) where
-  pub text-refused : (n : ℕ) → text-number (sealingOf s) p out ≡ suc n → Answered (sealingOf s) p out (record { answer = suc n; session = s }) out
+module _ (s : machine.Session) (p out : List ℕ) where
+  pub text-refused : (n : ℕ) → text-number (sessionOf s) p out ≡ suc n → Answered (sessionOf s) p out (record { answer = suc n; session = s }) out
   unfolding text-call
   text-refused n e = (record { number = sym e; session = rw (e, ne-eqb (suc n) 0 (λ z. omega arith)) }, rw (e, ne-eqb (suc n) 0 (λ z. omega arith)))
 
-  pub text-accepted : (r : Session) (after : List ℕ) → text-number (sealingOf s) p out ≡ 0 → sealingOf r ≡ text-taken (closed (sealingOf s)) p
-      → after ≡ text-out (closed (sealingOf s)) p ++ drop (length p) out → Answered (sealingOf s) p out (record { answer = 0; session = r }) after
+  pub text-accepted : (r : machine.Session) (after : List ℕ) → text-number (sessionOf s) p out ≡ 0 → sessionOf r ≡ text-taken (closed (sessionOf s)) p
+      → after ≡ text-out (closed (sessionOf s)) p ++ drop (length p) out → Answered (sessionOf s) p out (record { answer = 0; session = r }) after
   unfolding text-call
   text-accepted r after e er eo = (record { number = sym e; session = er ∙ rw e }, eo ∙ rw e)
 
-module _ (s : Sealing) where
+module _ (s : Session) where
   pub finish-zeros : finish-number s ≡ 7 → finish-call s .out ≡ zeros
   unfolding finish-call
   finish-zeros e = rw e

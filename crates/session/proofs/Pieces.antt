@@ -12,74 +12,74 @@ use lib.ListN.{length, drop, length-append}
 use Rattle.scope.specs.Refusals.{pick}
 use Rattle.digest.specs.Digest.{Sum, absorb, settled}
 use Rattle.digest.proofs.Pieces.{absorb-append}
-use Rattle.session.specs.Sealing.{Sealing}
+use Rattle.session.specs.Session.{Session}
 use Rattle.session.specs.Inner.{told, into-text}
 use Rattle.session.specs.Calls.{data-taken, closed, byte-out, byte-taken, text-taken, text-out}
 
 -- ---- text
 
-pub text-none : (s : Sealing) → text-taken s [] ≡ s
+pub text-none : (s : Session) → text-taken s [] ≡ s
 unfolding text-taken
 text-none s = refl
 
-pub out-none : (s : Sealing) → text-out s [] ≡ []
+pub out-none : (s : Session) → text-out s [] ≡ []
 unfolding text-out
 out-none s = refl
 
-pub text-append : (s : Sealing) (p q : List ℕ) → text-taken s (p ++ q) ≡ text-taken (text-taken s p) q
+pub text-append : (s : Session) (p q : List ℕ) → text-taken s (p ++ q) ≡ text-taken (text-taken s p) q
 unfolding text-taken
 text-append s [] q = refl
 text-append s (b ∷ p) q = text-append (byte-taken s b) p q
 
-pub out-append : (s : Sealing) (p q : List ℕ) → text-out s (p ++ q) ≡ text-out s p ++ text-out (text-taken s p) q
+pub out-append : (s : Session) (p q : List ℕ) → text-out s (p ++ q) ≡ text-out s p ++ text-out (text-taken s p) q
 unfolding text-taken text-out
 out-append s [] q = refl
 out-append s (b ∷ p) q = ap (λ (l : List ℕ). byte-out s b ∷ l) (out-append (byte-taken s b) p q)
 
-pub out-length : (s : Sealing) (p : List ℕ) → length (text-out s p) ≡ length p
+pub out-length : (s : Session) (p : List ℕ) → length (text-out s p) ≡ length p
 unfolding text-out
 out-length s [] = refl
 out-length s (b ∷ p) = ap suc (out-length (byte-taken s b) p)
 
-pub text-count : (s : Sealing) (p : List ℕ) → text-taken s p .text ≡ s .text + length p
+pub text-count : (s : Session) (p : List ℕ) → text-taken s p .text ≡ s .text + length p
 unfolding text-taken byte-taken
 text-count s [] = sym (add-zero (s .text))
 text-count s (b ∷ p) = text-count (byte-taken s b) p ∙ omega arith
 
 -- what no byte changes, no text does
-pub text-keeps {ℓ} : {A : Type ℓ} (f : Sealing → A) → ((s : Sealing) (b : ℕ) → f (byte-taken s b) ≡ f s) → (s : Sealing) (p : List ℕ)
+pub text-keeps {ℓ} : {A : Type ℓ} (f : Session → A) → ((s : Session) (b : ℕ) → f (byte-taken s b) ≡ f s) → (s : Session) (p : List ℕ)
     → f (text-taken s p) ≡ f s
 unfolding text-taken
 text-keeps f h s [] = refl
 text-keeps f h s (b ∷ p) = text-keeps f h (byte-taken s b) p ∙ h s b
 
-pub text-phase : (s : Sealing) (p : List ℕ) → text-taken s p .phase ≡ s .phase
+pub text-phase : (s : Session) (p : List ℕ) → text-taken s p .phase ≡ s .phase
 unfolding byte-taken
 text-phase = text-keeps (λ s. s .phase) (λ s b. refl)
 
-pub text-ad : (s : Sealing) (p : List ℕ) → text-taken s p .ad ≡ s .ad
+pub text-ad : (s : Session) (p : List ℕ) → text-taken s p .ad ≡ s .ad
 unfolding byte-taken
 text-ad = text-keeps (λ s. s .ad) (λ s b. refl)
 
-pub text-h : (s : Sealing) (p : List ℕ) → text-taken s p .h ≡ s .h
+pub text-h : (s : Session) (p : List ℕ) → text-taken s p .h ≡ s .h
 unfolding byte-taken
 text-h = text-keeps (λ s. s .h) (λ s b. refl)
 
-pub text-pad : (s : Sealing) (p : List ℕ) → text-taken s p .pad ≡ s .pad
+pub text-pad : (s : Session) (p : List ℕ) → text-taken s p .pad ≡ s .pad
 unfolding byte-taken
 text-pad = text-keeps (λ s. s .pad) (λ s b. refl)
 
 -- the hash goes as the digest of the ciphertext does
-pub text-sum : (s : Sealing) (p : List ℕ) → text-taken s p .sum ≡ absorb (s .h) (s .sum) (s .text) (text-out s p)
+pub text-sum : (s : Session) (p : List ℕ) → text-taken s p .sum ≡ absorb (s .h) (s .sum) (s .text) (text-out s p)
 unfolding text-taken text-out byte-taken absorb
 text-sum s [] = refl
 text-sum s (b ∷ p) = text-sum (byte-taken s b) p
 
 -- ---- the data closed
 
-module _ (s : Sealing) where
+module _ (s : Session) where
   -- what closing does not change
-  closed-keeps {ℓ} : {A : Type ℓ} (f : Sealing → A) → f (into-text s (settled (s .h) (s .sum) (s .ad))) ≡ f s → f (closed s) ≡ f s
+  closed-keeps {ℓ} : {A : Type ℓ} (f : Session → A) → f (into-text s (settled (s .h) (s .sum) (s .ad))) ≡ f s → f (closed s) ≡ f s
   unfolding closed
   closed-keeps f e = go (eqb (s .phase) 0)
     where
@@ -109,28 +109,28 @@ module _ (s : Sealing) where
       go (no e) = rw (← closed-already e) e
 
 -- a text taken by the session u with its data closed
-module _ (s u : Sealing) (e : u ≡ closed s) where
+module _ (s u : Session) (e : u ≡ closed s) where
   pub closed-count : u .text ≡ s .text
-  closed-count = ap (λ (v : Sealing). v .text) e ∙ closed-text s
+  closed-count = ap (λ (v : Session). v .text) e ∙ closed-text s
 
-  pub closed-piece : (r : Sealing) (p out after : List ℕ) → (r ≡ text-taken u p) × (after ≡ text-out u p ++ drop (length p) out)
+  pub closed-piece : (r : Session) (p out after : List ℕ) → (r ≡ text-taken u p) × (after ≡ text-out u p ++ drop (length p) out)
       → (r ≡ text-taken (closed s) p) × (after ≡ text-out (closed s) p ++ drop (length p) out)
   closed-piece r p out after t = rw (← e) t
 
 -- two texts, each of which closes the data, are one
-module _ (s : Sealing) (p q : List ℕ) where
+module _ (s : Session) (p q : List ℕ) where
   closed-since : closed (text-taken (closed s) p) ≡ text-taken (closed s) p
   closed-since = sym (closed-already (text-taken (closed s) p) (rw (text-phase (closed s) p) (closed-phase s)))
 
   pub text-twice : text-taken (closed (text-taken (closed s) p)) q ≡ text-taken (closed s) (p ++ q)
-  text-twice = ap (λ (u : Sealing). text-taken u q) closed-since ∙ sym (text-append (closed s) p q)
+  text-twice = ap (λ (u : Session). text-taken u q) closed-since ∙ sym (text-append (closed s) p q)
 
   pub out-twice : text-out (closed s) p ++ text-out (closed (text-taken (closed s) p)) q ≡ text-out (closed s) (p ++ q)
-  out-twice = ap (λ (u : Sealing). text-out (closed s) p ++ text-out u q) closed-since ∙ sym (out-append (closed s) p q)
+  out-twice = ap (λ (u : Session). text-out (closed s) p ++ text-out u q) closed-since ∙ sym (out-append (closed s) p q)
 
 -- ---- data
 
-pub told-taken : (s : Sealing) (p : List ℕ) (y : Sum) → s .phase ≡ 0 → y ≡ absorb (s .h) (s .sum) (s .ad) p → told s (length p) y ≡ data-taken s p
+pub told-taken : (s : Session) (p : List ℕ) (y : Sum) → s .phase ≡ 0 → y ≡ absorb (s .h) (s .sum) (s .ad) p → told s (length p) y ≡ data-taken s p
 unfolding data-taken
 told-taken s p y e f =
     λ i. record {
@@ -144,7 +144,7 @@ told-taken s p y e f =
       sum = f i;
     }
 
-pub data-append : (s : Sealing) (p q : List ℕ) → data-taken s (p ++ q) ≡ data-taken (data-taken s p) q
+pub data-append : (s : Session) (p q : List ℕ) → data-taken s (p ++ q) ≡ data-taken (data-taken s p) q
 unfolding data-taken
 data-append s p q =
     let n : s .ad + length (p ++ q) ≡ s .ad + length p + length q = omega (arith, length-append p q) in

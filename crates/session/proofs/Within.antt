@@ -13,23 +13,23 @@ use Rattle.ghash.specs.Hash.{eat}
 use Rattle.cipher.specs.Step.{z, step}
 use Rattle.digest.specs.Digest.{Sum, fresh, absorb}
 use Rattle.digest.proofs.Pieces.{absorb-inside, absorb-fills, absorb-block}
-use Rattle.session.specs.Sealing.{Sealing}
+use Rattle.session.specs.Session.{Session}
 use Rattle.session.specs.Calls.{byte-current, byte-out, byte-taken, text-taken, text-out}
 use Rattle.session.specs.Inner.{ready, masked, counted, sent-on, held}
 use Rattle.session.proofs.Pieces.{out-length, text-count, text-phase, text-ad, text-h, text-pad, text-sum}
 
 -- ---- the block in use
 
-pub ready-text : (s : Sealing) → ready s .text ≡ s .text
+pub ready-text : (s : Session) → ready s .text ≡ s .text
 unfolding ready
 ready-text s = refl
 
-pub ready-inside : (s : Sealing) → (s .text % 16 ≡ 0 → ⊥) → ready s ≡ s
+pub ready-inside : (s : Session) → (s .text % 16 ≡ 0 → ⊥) → ready s ≡ s
 unfolding ready byte-current
 ready-inside s e = rw (ne-eqb (s .text % 16) 0 e)
 
 -- a session with a block drawn
-abbrev pub drawn : Sealing → Sealing
+abbrev pub drawn : Session → Session
 drawn s =
     record {
       phase = s .phase;
@@ -42,14 +42,14 @@ drawn s =
       sum = s .sum;
     }
 
-pub ready-start : (s : Sealing) → s .text % 16 ≡ 0 → ready s ≡ drawn s
+pub ready-start : (s : Session) → s .text % 16 ≡ 0 → ready s ≡ drawn s
 unfolding ready byte-current
 ready-start s e = rw e
 
 -- ---- byte by byte within it
 
 -- a block is drawn for the first byte at most
-pub drawn-once : (s : Sealing) (p : List ℕ) → 0 < length p → s .text % 16 + length p ≤ 16
+pub drawn-once : (s : Session) (p : List ℕ) → 0 < length p → s .text % 16 + length p ≤ 16
     → (text-taken s p .registers ≡ ready s .registers) × (text-taken s p .current ≡ ready s .current)
 unfolding text-taken byte-taken ready
 drawn-once s [] z h = absurd (omega arith)
@@ -58,14 +58,14 @@ drawn-once s (b ∷ d ∷ p) z h =
     let u = byte-taken s b in
     let e = drawn-once u (d ∷ p) (omega arith) (omega arith) in
     let f = ready-inside u (omega arith) in
-    (e .0 ∙ ap (λ (v : Sealing). v .registers) f, e .1 ∙ ap (λ (v : Sealing). v .current) f)
+    (e .0 ∙ ap (λ (v : Session). v .registers) f, e .1 ∙ ap (λ (v : Session). v .current) f)
 
-mask-cons : (s : Sealing) (b : ℕ) (p : List ℕ) → length (s .current) ≡ 16
+mask-cons : (s : Session) (b : ℕ) (p : List ℕ) → length (s .current) ≡ 16
     → masked s (b ∷ p) ≡ (b ⊕ getD (s .current) (s .text % 16) 0) ∷ xors p (drop (suc (s .text % 16)) (s .current))
 unfolding xors
 mask-cons s b p n = rw (drop-cons (s .current) (s .text % 16) 0 (omega arith))
 
-pub within-out : (s : Sealing) (p : List ℕ) → 0 < length p → length (ready s .current) ≡ 16 → s .text % 16 + length p ≤ 16
+pub within-out : (s : Session) (p : List ℕ) → 0 < length p → length (ready s .current) ≡ 16 → s .text % 16 + length p ≤ 16
     → text-out s p ≡ masked (ready s) p
 unfolding text-out byte-out byte-taken ready xors
 within-out s [] z n h = absurd (omega arith)
@@ -75,12 +75,12 @@ within-out s (b ∷ d ∷ p) z n h =
     let f = ready-inside u (omega arith) in
     let m : (s .text + 1) % 16 ≡ suc (s .text % 16) = omega arith in
     ap (λ (l : List ℕ). byte-out s b ∷ l)
-    (within-out u (d ∷ p) (omega arith) (ap (λ (v : Sealing). length (v .current)) f ∙ n) (omega arith) ∙ ap (λ (v : Sealing). masked v (d ∷ p)) f ∙ rw m)
+    (within-out u (d ∷ p) (omega arith) (ap (λ (v : Session). length (v .current)) f ∙ n) (omega arith) ∙ ap (λ (v : Session). masked v (d ∷ p)) f ∙ rw m)
     ∙ sym (mask-cons (ready s) b (d ∷ p) n)
 
 -- ---- at once
 
-module _ (s : Sealing) (p : List ℕ) (some : 0 < length p) (long : length (ready s .current) ≡ 16) (inside : s .text % 16 + length p ≤ 16) where
+module _ (s : Session) (p : List ℕ) (some : 0 < length p) (long : length (ready s .current) ≡ 16) (inside : s .text % 16 + length p ≤ 16) where
   -- all but the hash
   all-but : (y : Sum) → text-taken s p .sum ≡ y → text-taken s p ≡ counted (ready s) (s .text + length p) y
   unfolding ready
@@ -116,15 +116,15 @@ module _ (s : Sealing) (p : List ℕ) (some : 0 < length p) (long : length (read
 
 -- ---- a whole block
 
-module _ (s : Sealing) (p : List ℕ) (start : s .text % 16 ≡ 0) (n : length p ≡ 16) (long : length (z (s .registers)) ≡ 16) where
+module _ (s : Session) (p : List ℕ) (start : s .text % 16 ≡ 0) (n : length p ≡ 16) (long : length (z (s .registers)) ≡ 16) where
   at-start : ready s ≡ drawn s
   at-start = ready-start s start
 
   drawn-long : length (ready s .current) ≡ 16
-  drawn-long = ap (λ (v : Sealing). length (v .current)) at-start ∙ long
+  drawn-long = ap (λ (v : Session). length (v .current)) at-start ∙ long
 
   pub block-out : text-out s p ≡ xors p (z (s .registers))
-  block-out = within-out s p (omega arith) drawn-long (omega arith) ∙ ap (λ (v : Sealing). masked v p) at-start ∙ rw start
+  block-out = within-out s p (omega arith) drawn-long (omega arith) ∙ ap (λ (v : Session). masked v p) at-start ∙ rw start
 
   pub block-taken-is : length (s .sum .pending) ≡ 16
       → text-taken s p ≡ counted (drawn s) (s .text + 16) (fresh (eat (s .h) (s .sum .hash) (xors p (z (s .registers)))))

@@ -13,15 +13,14 @@ use Rattle.ghash.specs.Hash.{lengths, eat}
 use Rattle.cipher.specs.Registers.{Registers}
 use Rattle.cipher.specs.Step.{z, step}
 use Rattle.cipher.specs.Run.{forward, moves}
-use Rattle.start.specs.declared.Mode.the-variants.{Sealed}
-use Rattle.start.specs.Start.{start, start-number, blank}
+use Rattle.start.specs.Start.{Mode.sealed, start, start-number, blank}
 use Rattle.digest.specs.Digest.{fresh, push, absorb, settled}
-use Rattle.session.specs.Sealing.{Sealing}
+use Rattle.session.specs.Session.{Session}
 
 -- ---- begin: 1, 2 (the numbers of a start)
 
 -- a session begun where a start leads: two blocks are drawn, H and the end pad
-abbrev pub begun-from : Registers → Sealing
+abbrev pub begun-from : Registers → Session
 begun-from s =
     record {
       phase = 0;
@@ -35,19 +34,19 @@ begun-from s =
     }
 
 -- the session that an accepted begin gives
-unfoldable pub begun : (key iv : List ℕ) → Sealing
-begun key iv = begun-from (start key iv Sealed)
+unfoldable pub begun : (key iv : List ℕ) → Session
+begun key iv = begun-from (start key iv sealed)
 
 -- what a refused begin hands out in a session's place: it is finished, so that every call gives 7
-abbrev pub nobody : Sealing
-nobody = record { phase = 2; ad = 0; text = 0; registers = blank; h = zeros; pad = zeros; current = zeros; sum = fresh zeros }
+abbrev pub no-session : Session
+no-session = record { phase = 2; ad = 0; text = 0; registers = blank; h = zeros; pad = zeros; current = zeros; sum = fresh zeros }
 
 -- ---- data: 7, 3
 
-unfoldable pub data-number : Sealing → (piece : List ℕ) → ℕ
+unfoldable pub data-number : Session → (piece : List ℕ) → ℕ
 data-number s p = refuse (not (eqb (s .phase) 0)) out-of-phase (refuse (ltb most-data (s .ad + length p)) too-long 0)
 
-unfoldable pub data-taken : Sealing → (piece : List ℕ) → Sealing
+unfoldable pub data-taken : Session → (piece : List ℕ) → Session
 data-taken s p =
     record {
       phase = 0;
@@ -63,7 +62,7 @@ data-taken s p =
 -- ---- text: 7, 3, 4
 
 -- the first text closes the data: what is held of it is padded with zeros and hashed. Nothing is left to do where that is done
-unfoldable pub closed : Sealing → Sealing
+unfoldable pub closed : Session → Session
 closed s =
     pick (eqb (s .phase) 0)
     (record {
@@ -79,14 +78,14 @@ closed s =
     s
 
 -- the keystream block for the next byte: one is drawn where the length so far is a multiple of 16, and not before
-unfoldable pub byte-current : Sealing → List ℕ
+unfoldable pub byte-current : Session → List ℕ
 byte-current s = pick (eqb (s .text % 16) 0) (z (s .registers)) (s .current)
 
 -- a byte of text sealed
-unfoldable pub byte-out : Sealing → ℕ → ℕ
+unfoldable pub byte-out : Session → ℕ → ℕ
 byte-out s b = b ⊕ getD (byte-current s) (s .text % 16) 0
 
-unfoldable pub byte-taken : Sealing → ℕ → Sealing
+unfoldable pub byte-taken : Session → ℕ → Session
 byte-taken s b =
     record {
       phase = s .phase;
@@ -100,30 +99,30 @@ byte-taken s b =
     }
 
 -- a piece: the session after it, and its ciphertext
-unfoldable pub text-taken : Sealing → (piece : List ℕ) → Sealing
+unfoldable pub text-taken : Session → (piece : List ℕ) → Session
 text-taken s [] = s
 text-taken s (b ∷ p) = text-taken (byte-taken s b) p
 
-unfoldable pub text-out : Sealing → (piece : List ℕ) → List ℕ
+unfoldable pub text-out : Session → (piece : List ℕ) → List ℕ
 text-out s [] = []
 text-out s (b ∷ p) = byte-out s b ∷ text-out (byte-taken s b) p
 
-unfoldable pub text-number : Sealing → (piece out : List ℕ) → ℕ
+unfoldable pub text-number : Session → (piece out : List ℕ) → ℕ
 text-number s p out =
     refuse (not (ltb (s .phase) 2)) out-of-phase
     (refuse (ltb most-text (s .text + length p)) too-long (refuse (ltb (length out) (length p)) short-output 0))
 
 -- ---- finish: 7
 
-unfoldable pub finish-number : Sealing → ℕ
+unfoldable pub finish-number : Session → ℕ
 finish-number s = refuse (not (ltb (s .phase) 2)) out-of-phase 0
 
 -- the hash of all, both lengths last, xor the end pad
-unfoldable pub tag-of : Sealing → List ℕ
+unfoldable pub tag-of : Session → List ℕ
 tag-of s =
     xors (eat (s .h) (settled (s .h) (closed s .sum) (s .text)) (lengths (s .ad) (s .text))) (s .pad)
 
-unfoldable pub finished : Sealing → Sealing
+unfoldable pub finished : Session → Session
 finished s =
     record { phase = 2; ad = s .ad; text = s .text; registers = s .registers; h = s .h; pad = s .pad; current = s .current; sum = s .sum }
 
@@ -132,15 +131,15 @@ finished s =
 pub record Given : Type 0 where
   pub number : ℕ
   pub out : List ℕ
-  pub session : Sealing
+  pub session : Session
 
 unfoldable pub begin-call : (key iv : List ℕ) → Given
-begin-call key iv = record { number = start-number key iv; out = []; session = granted (start-number key iv) (begun key iv) nobody }
+begin-call key iv = record { number = start-number key iv; out = []; session = granted (start-number key iv) (begun key iv) no-session }
 
-unfoldable pub data-call : Sealing → (piece : List ℕ) → Given
+unfoldable pub data-call : Session → (piece : List ℕ) → Given
 data-call s p = record { number = data-number s p; out = []; session = granted (data-number s p) (data-taken s p) s }
 
-unfoldable pub text-call : Sealing → (piece out : List ℕ) → Given
+unfoldable pub text-call : Session → (piece out : List ℕ) → Given
 text-call s p out =
     record {
       number = text-number s p out;
@@ -149,7 +148,7 @@ text-call s p out =
     }
 
 -- a refused finish gives zeros in the tag's place
-unfoldable pub finish-call : Sealing → Given
+unfoldable pub finish-call : Session → Given
 finish-call s =
     record {
       number = finish-number s;

@@ -19,23 +19,23 @@ use Rattle.cipher.specs.Machine.{registersOf}
 use Rattle.digest.specs.Digest.{Sum, fresh}
 use Rattle.digest.specs.Machine.{sumOf}
 use Rattle.session.specs.declared.Lane.{Lane}
-use Rattle.session.specs.Sealing.{Sealing}
+use Rattle.session.specs.Session.{Session}
 use Rattle.session.specs.Calls.{byte-current}
 
 -- n bytes more of data, which are hashed or held in y
-abbrev pub told : Sealing → ℕ → (y : Sum) → Sealing
+abbrev pub told : Session → ℕ → (y : Sum) → Session
 told s n y =
     record { phase = s .phase; ad = s .ad + n; text = s .text; registers = s .registers; h = s .h; pad = s .pad; current = s .current; sum = y }
 
 -- the data closed, with their hash y
-abbrev pub into-text : Sealing → (y : List ℕ) → Sealing
+abbrev pub into-text : Session → (y : List ℕ) → Session
 into-text s y =
     record { phase = 1; ad = s .ad; text = s .text; registers = s .registers; h = s .h; pad = s .pad; current = s .current; sum = fresh y }
 
 -- ---- bytes of one block
 
 -- a block is drawn where the next byte is the first of one
-unfoldable pub ready : Sealing → Sealing
+unfoldable pub ready : Session → Session
 ready s =
     record {
       phase = s .phase;
@@ -49,24 +49,24 @@ ready s =
     }
 
 -- text under the block in use
-abbrev pub masked : Sealing → List ℕ → List ℕ
+abbrev pub masked : Session → List ℕ → List ℕ
 masked s p = xors p (drop (s .text % 16) (s .current))
 
 -- a session at another length and hash
-abbrev pub counted : Sealing → ℕ → Sum → Sealing
+abbrev pub counted : Session → ℕ → Sum → Session
 counted s n y =
     record { phase = s .phase; ad = s .ad; text = n; registers = s .registers; h = s .h; pad = s .pad; current = s .current; sum = y }
 
 -- m bytes more are held, which makes them q
-abbrev pub holding : Sealing → List ℕ → ℕ → Sealing
+abbrev pub holding : Session → List ℕ → ℕ → Session
 holding s q m = counted s (s .text + m) (record { hash = s .sum .hash; pending = q })
 
 -- the same where they are a whole block, which is sent on
-abbrev pub sent-on : Sealing → List ℕ → ℕ → Sealing
+abbrev pub sent-on : Session → List ℕ → ℕ → Session
 sent-on s q m = counted s (s .text + m) (fresh (eat (s .h) (s .sum .hash) q))
 
 -- text of one block held
-unfoldable pub held : Sealing → List ℕ → Sealing
+unfoldable pub held : Session → List ℕ → Session
 held s p = holding s (sets (s .sum .pending) (s .text % 16) (masked s p)) (length p)
 
 -- ---- whole blocks

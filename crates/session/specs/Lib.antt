@@ -1,4 +1,4 @@
-pub mod Sealing
+pub mod Session
 pub mod Calls
 pub mod Machine
 pub mod Inner

@@ -4,14 +4,14 @@ use Rattle.words.specs.Machine.{bytesOf}
 use Rattle.ghash.specs.Machine.{bytesOfElement}
 use Rattle.cipher.specs.Machine.{registersOf}
 use Rattle.digest.specs.Machine.{sumOf}
-use Rattle.session.specs.declared.Session.{Session}
+use Rattle.session.specs.declared.Session as machine
 use Rattle.session.specs.declared.Said.{Said}
 use Rattle.session.specs.declared.Finished.{Finished}
-use Rattle.session.specs.Sealing.{Sealing}
+use Rattle.session.specs.Session.{Session}
 use Rattle.session.specs.Calls.{Given}
 
-abbrev pub sealingOf : Session → Sealing
-sealingOf s =
+abbrev pub sessionOf : machine.Session → Session
+sessionOf s =
     record {
       phase = s .phase;
       ad = s .ad;
@@ -26,10 +26,10 @@ sealingOf s =
 -- a call's number and session
 pub record Says (g : Given) (r : Said) : Type 0 where
   pub number : r .answer ≡ g .number
-  pub session : sealingOf (r .session) ≡ g .session
+  pub session : sessionOf (r .session) ≡ g .session
 
 -- finish's, with the tag
 pub record Finishes (g : Given) (r : Finished) : Type 0 where
   pub number : r .answer ≡ g .number
   pub tag : r .tag ≡ g .out
-  pub session : sealingOf (r .session) ≡ g .session
+  pub session : sessionOf (r .session) ≡ g .session

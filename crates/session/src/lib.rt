@@ -16,7 +16,7 @@ ghost use Rattle.cipher.specs.Machine.{registersOf};
 ghost use Rattle.digest.specs.Machine.{sumOf};
 ghost use Rattle.session.specs.Calls as Calls;
 ghost use Rattle.session.specs.Calls.{begun-from, begin-call, data-taken, data-call, closed, tag-of, text-taken, text-out, text-call, finish-call};
-ghost use Rattle.session.specs.Machine.{sealingOf, Says, Finishes};
+ghost use Rattle.session.specs.Machine.{sessionOf, Says, Finishes};
 ghost use Rattle.session.specs.Inner as Inner;
 ghost use Rattle.session.specs.Inner.{ready, masked, trackOf, block-taken, Part, Blocks, Multiples, Lent};
 use cipher::State;
@@ -67,8 +67,8 @@ pub fn multiples(h: Element, table: &mut [u64; 1024])
 }
 
 // What a refused begin hands out in a session's place: finished, so that every call gives 7.
-pub fn nobody() -> Session
-    ensures { λ r. ⌜ sealingOf r ≡ Calls.nobody ⌝ }
+pub fn no_session() -> Session
+    ensures { λ r. ⌜ sessionOf r ≡ Calls.no-session ⌝ }
 {
     let blank = start::blank_state();
     let zero = words::zero();
@@ -87,7 +87,7 @@ pub fn nobody() -> Session
 
 // The session that an accepted begin gives: H and the end pad are drawn.
 fn opened(s: State) -> Session
-    ensures { λ r. ⌜ sealingOf r ≡ begun-from (registersOf s) ⌝ }
+    ensures { λ r. ⌜ sessionOf r ≡ begun-from (registersOf s) ⌝ }
 {
     let sbox = aes::sbox();
     let w = cipher::forward(s, &sbox);
@@ -118,7 +118,7 @@ pub fn begin(key: &[u8], iv: &[u8]) -> Said
     if answer != 0 {
         return Said {
             answer: answer,
-            session: nobody(),
+            session: no_session(),
         };
     }
     Said {
@@ -130,7 +130,7 @@ pub fn begin(key: &[u8], iv: &[u8]) -> Said
 // n bytes more of data, which are hashed or held in e.
 fn told(s: Session, n: u64, e: Held) -> Session
     requires { ⌜ s .ad + n < 2 ^ 64 ⌝ }
-    ensures { λ r. ⌜ sealingOf r ≡ Inner.told (sealingOf s) n (sumOf e) ⌝ }
+    ensures { λ r. ⌜ sessionOf r ≡ Inner.told (sessionOf s) n (sumOf e) ⌝ }
 {
     let mut r = s;
     r.ad = s.ad + n;
@@ -140,7 +140,7 @@ fn told(s: Session, n: u64, e: Held) -> Session
 
 // Takes a piece of associated data. Refused: 7 once text has come or after finish, 3 where the data would be over 65,535 bytes.
 pub fn data(s: Session, piece: &[u8]) -> Said
-    ensures { λ r. ⌜ Says (data-call (sealingOf s) (now (piece .entry))) r ⌝ }
+    ensures { λ r. ⌜ Says (data-call (sessionOf s) (now (piece .entry))) r ⌝ }
 {
     if s.phase != 0 {
         return Said {
@@ -173,7 +173,7 @@ pub fn data(s: Session, piece: &[u8]) -> Said
 // An accepted piece of associated data, with the table of H lent.
 pub fn data_with(s: Session, piece: &[u8], table: &[u64; 1024]) -> Session
     requires { ⌜ (s .phase ≡ 0) × (s .ad + length (now piece) < 2 ^ 64) × Multiples (bytesOfElement (s .h)) (now table) ⌝ }
-    ensures { λ r. ⌜ sealingOf r ≡ data-taken (sealingOf s) (now (piece .entry)) ⌝ }
+    ensures { λ r. ⌜ sessionOf r ≡ data-taken (sessionOf s) (now (piece .entry)) ⌝ }
 {
     let h = s.h;
     let d = s.held;
@@ -187,7 +187,7 @@ pub fn data_with(s: Session, piece: &[u8], table: &[u64; 1024]) -> Session
 // A block is drawn where the next byte is the first of one, and not before.
 fn drawn(s: Session, sbox: &[u8; 256]) -> Session
     requires { ⌜ Holds sub (now sbox) ⌝ }
-    ensures { λ r. ⌜ sealingOf r ≡ ready (sealingOf s) ⌝ }
+    ensures { λ r. ⌜ sessionOf r ≡ ready (sessionOf s) ⌝ }
 {
     if s.text % 16 != 0 {
         return s;
@@ -239,8 +239,8 @@ fn hold(
     sbox: &[u8; 256],
 ) -> Session
     requires { ⌜ Part (s .text) (length (now piece)) (length (now out)) from to × (s .text % 16 + (to - from) ≤ 16) × Holds sub (now sbox) ⌝ }
-    ensures session { λ r. ⌜ sealingOf r ≡ Inner.held (ready (sealingOf s)) (slice from to (now (piece .entry))) ⌝ }
-    ensures out { λ _. ⌜ now (out .exit) ≡ sets (now (out .entry)) from (masked (ready (sealingOf s)) (slice from to (now (piece .entry)))) ⌝ }
+    ensures session { λ r. ⌜ sessionOf r ≡ Inner.held (ready (sessionOf s)) (slice from to (now (piece .entry))) ⌝ }
+    ensures out { λ _. ⌜ now (out .exit) ≡ sets (now (out .entry)) from (masked (ready (sessionOf s)) (slice from to (now (piece .entry)))) ⌝ }
 {
     let mut r = drawn(s, sbox);
     let d = r.held;
@@ -269,8 +269,8 @@ fn few(
     sbox: &[u8; 256],
 ) -> Session
     requires { ⌜ Part (s .text) (length (now piece)) (length (now out)) from to × (s .text % 16 + (to - from) < 16) × Holds sub (now sbox) ⌝ }
-    ensures session { λ r. ⌜ sealingOf r ≡ text-taken (sealingOf s) (slice from to (now (piece .entry))) ⌝ }
-    ensures out { λ _. ⌜ now (out .exit) ≡ sets (now (out .entry)) from (text-out (sealingOf s) (slice from to (now (piece .entry)))) ⌝ }
+    ensures session { λ r. ⌜ sessionOf r ≡ text-taken (sessionOf s) (slice from to (now (piece .entry))) ⌝ }
+    ensures out { λ _. ⌜ now (out .exit) ≡ sets (now (out .entry)) from (text-out (sessionOf s) (slice from to (now (piece .entry)))) ⌝ }
 {
     if to <= from {
         return s;
@@ -289,8 +289,8 @@ fn full(
     table: &[u64; 1024],
 ) -> Session
     requires { ⌜ Part (s .text) (length (now piece)) (length (now out)) from to × (to - from ≡ (16 - s .text % 16) % 16) × Lent (bytesOfElement (s .h)) (now sbox) (now table) ⌝ }
-    ensures session { λ r. ⌜ sealingOf r ≡ text-taken (sealingOf s) (slice from to (now (piece .entry))) ⌝ }
-    ensures out { λ _. ⌜ now (out .exit) ≡ sets (now (out .entry)) from (text-out (sealingOf s) (slice from to (now (piece .entry)))) ⌝ }
+    ensures session { λ r. ⌜ sessionOf r ≡ text-taken (sessionOf s) (slice from to (now (piece .entry))) ⌝ }
+    ensures out { λ _. ⌜ now (out .exit) ≡ sets (now (out .entry)) from (text-out (sessionOf s) (slice from to (now (piece .entry)))) ⌝ }
 {
     if from == to {
         return s;
@@ -362,8 +362,8 @@ fn blocks(
     table: &[u64; 1024],
 ) -> Session
     requires { ⌜ Blocks (s .text) (length (now piece)) (length (now out)) from to × Lent (bytesOfElement (s .h)) (now sbox) (now table) ⌝ }
-    ensures session { λ r. ⌜ sealingOf r ≡ text-taken (sealingOf s) (slice from to (now (piece .entry))) ⌝ }
-    ensures out { λ _. ⌜ now (out .exit) ≡ sets (now (out .entry)) from (text-out (sealingOf s) (slice from to (now (piece .entry)))) ⌝ }
+    ensures session { λ r. ⌜ sessionOf r ≡ text-taken (sessionOf s) (slice from to (now (piece .entry))) ⌝ }
+    ensures out { λ _. ⌜ now (out .exit) ≡ sets (now (out .entry)) from (text-out (sessionOf s) (slice from to (now (piece .entry)))) ⌝ }
 {
     let h = s.h;
     let first = s.state;
@@ -394,7 +394,7 @@ fn blocks(
 // What `text` would write, from the start of a block on, with nothing hashed: of a ciphertext, its text.
 pub fn apply_keystream(s: Session, input: &[u8], out: &mut [u8])
     requires { ⌜ (s .text % 16 ≡ 0) × (length (now input) ≤ length (now out)) ⌝ }
-    ensures { λ _. ⌜ now (out .exit) ≡ text-out (sealingOf s) (now (input .entry)) ++ drop (length (now (input .entry))) (now (out .entry)) ⌝ }
+    ensures { λ _. ⌜ now (out .exit) ≡ text-out (sessionOf s) (now (input .entry)) ++ drop (length (now (input .entry))) (now (out .entry)) ⌝ }
 {
     let sbox = aes::sbox();
     let n = input.len();
@@ -417,7 +417,7 @@ pub fn apply_keystream(s: Session, input: &[u8], out: &mut [u8])
 
 // The first text, or finish, closes the data; y is its hash.
 fn into_text(s: Session, y: Element) -> Session
-    ensures { λ r. ⌜ sealingOf r ≡ Inner.into-text (sealingOf s) (bytesOfElement y) ⌝ }
+    ensures { λ r. ⌜ sessionOf r ≡ Inner.into-text (sessionOf s) (bytesOfElement y) ⌝ }
 {
     let e = digest::fresh(y);
     let mut r = s;
@@ -428,7 +428,7 @@ fn into_text(s: Session, y: Element) -> Session
 
 // What is held of the data is padded with zeros and hashed, where that is not done.
 fn close(s: Session) -> Session
-    ensures { λ r. ⌜ sealingOf r ≡ closed (sealingOf s) ⌝ }
+    ensures { λ r. ⌜ sessionOf r ≡ closed (sessionOf s) ⌝ }
 {
     if s.phase != 0 {
         return s;
@@ -441,7 +441,7 @@ fn close(s: Session) -> Session
 // As `close`, with the table of H lent.
 pub fn close_with(s: Session, table: &[u64; 1024]) -> Session
     requires { ⌜ Multiples (bytesOfElement (s .h)) (now table) ⌝ }
-    ensures { λ r. ⌜ sealingOf r ≡ closed (sealingOf s) ⌝ }
+    ensures { λ r. ⌜ sessionOf r ≡ closed (sessionOf s) ⌝ }
 {
     if 0 < s.phase {
         return s;
@@ -454,8 +454,8 @@ pub fn close_with(s: Session, table: &[u64; 1024]) -> Session
 // A piece that fills no block.
 fn short_text(s: Session, piece: &[u8], out: &mut [u8]) -> Session
     requires { ⌜ Part (s .text) (length (now piece)) (length (now out)) 0 (length (now piece)) × (s .text % 16 + length (now piece) < 16) ⌝ }
-    ensures session { λ r. ⌜ sealingOf r ≡ text-taken (sealingOf s) (now (piece .entry)) ⌝ }
-    ensures out { λ _. ⌜ now (out .exit) ≡ text-out (sealingOf s) (now (piece .entry)) ++ drop (length (now (piece .entry))) (now (out .entry)) ⌝ }
+    ensures session { λ r. ⌜ sessionOf r ≡ text-taken (sessionOf s) (now (piece .entry)) ⌝ }
+    ensures out { λ _. ⌜ now (out .exit) ≡ text-out (sessionOf s) (now (piece .entry)) ++ drop (length (now (piece .entry))) (now (out .entry)) ⌝ }
 {
     let n = piece.len();
     if n == 0 {
@@ -468,8 +468,8 @@ fn short_text(s: Session, piece: &[u8], out: &mut [u8]) -> Session
 // A piece that fills a block: up to the end of the block in use, whole blocks, the rest.
 fn long_text(s: Session, piece: &[u8], out: &mut [u8], table: &[u64; 1024]) -> Session
     requires { ⌜ Part (s .text) (length (now piece)) (length (now out)) 0 (length (now piece)) × (16 ≤ s .text % 16 + length (now piece)) × Multiples (bytesOfElement (s .h)) (now table) ⌝ }
-    ensures session { λ r. ⌜ sealingOf r ≡ text-taken (sealingOf s) (now (piece .entry)) ⌝ }
-    ensures out { λ _. ⌜ now (out .exit) ≡ text-out (sealingOf s) (now (piece .entry)) ++ drop (length (now (piece .entry))) (now (out .entry)) ⌝ }
+    ensures session { λ r. ⌜ sessionOf r ≡ text-taken (sessionOf s) (now (piece .entry)) ⌝ }
+    ensures out { λ _. ⌜ now (out .exit) ≡ text-out (sessionOf s) (now (piece .entry)) ++ drop (length (now (piece .entry))) (now (out .entry)) ⌝ }
 {
     let n = piece.len();
     let sbox = aes::sbox();
@@ -484,8 +484,8 @@ fn long_text(s: Session, piece: &[u8], out: &mut [u8], table: &[u64; 1024]) -> S
 // Any accepted piece, even an empty one, closes the data. The table of H is lent.
 pub fn text_with(s: Session, piece: &[u8], out: &mut [u8], table: &[u64; 1024]) -> Session
     requires { ⌜ Part (s .text) (length (now piece)) (length (now out)) 0 (length (now piece)) × Multiples (bytesOfElement (s .h)) (now table) ⌝ }
-    ensures session { λ r. ⌜ sealingOf r ≡ text-taken (closed (sealingOf s)) (now (piece .entry)) ⌝ }
-    ensures out { λ _. ⌜ now (out .exit) ≡ text-out (closed (sealingOf s)) (now (piece .entry)) ++ drop (length (now (piece .entry))) (now (out .entry)) ⌝ }
+    ensures session { λ r. ⌜ sessionOf r ≡ text-taken (closed (sessionOf s)) (now (piece .entry)) ⌝ }
+    ensures out { λ _. ⌜ now (out .exit) ≡ text-out (closed (sessionOf s)) (now (piece .entry)) ++ drop (length (now (piece .entry))) (now (out .entry)) ⌝ }
 {
     let u = close_with(s, table);
     let at = (s.text % 16) as usize;
@@ -498,8 +498,8 @@ pub fn text_with(s: Session, piece: &[u8], out: &mut [u8], table: &[u64; 1024]) 
 // The same, with the table made where a block is filled.
 fn take_text(s: Session, piece: &[u8], out: &mut [u8]) -> Session
     requires { ⌜ Part (s .text) (length (now piece)) (length (now out)) 0 (length (now piece)) ⌝ }
-    ensures session { λ r. ⌜ sealingOf r ≡ text-taken (closed (sealingOf s)) (now (piece .entry)) ⌝ }
-    ensures out { λ _. ⌜ now (out .exit) ≡ text-out (closed (sealingOf s)) (now (piece .entry)) ++ drop (length (now (piece .entry))) (now (out .entry)) ⌝ }
+    ensures session { λ r. ⌜ sessionOf r ≡ text-taken (closed (sessionOf s)) (now (piece .entry)) ⌝ }
+    ensures out { λ _. ⌜ now (out .exit) ≡ text-out (closed (sessionOf s)) (now (piece .entry)) ++ drop (length (now (piece .entry))) (now (out .entry)) ⌝ }
 {
     let at = (s.text % 16) as usize;
     if piece.len() < 16 - at {
@@ -514,8 +514,8 @@ fn take_text(s: Session, piece: &[u8], out: &mut [u8]) -> Session
 // Seals a piece of text into the front of `out`; the first piece closes the data. Refused: 7 after finish, 3 where the text would be over
 // 1,048,576 bytes, 4 where the piece does not fit the output.
 pub fn text(s: Session, piece: &[u8], out: &mut [u8]) -> Said
-    ensures says { λ r. ⌜ Says (text-call (sealingOf s) (now (piece .entry)) (now (out .entry))) r ⌝ }
-    ensures out { λ _. ⌜ now (out .exit) ≡ text-call (sealingOf s) (now (piece .entry)) (now (out .entry)) .out ⌝ }
+    ensures says { λ r. ⌜ Says (text-call (sessionOf s) (now (piece .entry)) (now (out .entry))) r ⌝ }
+    ensures out { λ _. ⌜ now (out .exit) ≡ text-call (sessionOf s) (now (piece .entry)) (now (out .entry)) .out ⌝ }
 {
     if s.phase >= 2 {
         return Said {
@@ -561,7 +561,7 @@ fn bits(ad: u64, text: u64) -> Block
 // The hash of all, both lengths last, xor the end pad. The table of H is lent.
 pub fn tag_with(s: Session, table: &[u64; 1024]) -> Block
     requires { ⌜ Multiples (bytesOfElement (s .h)) (now table) ⌝ }
-    ensures { λ r. ⌜ bytesOf r ≡ tag-of (sealingOf s) ⌝ }
+    ensures { λ r. ⌜ bytesOf r ≡ tag-of (sessionOf s) ⌝ }
 {
     let h = s.h;
     let pad = s.pad;
@@ -573,7 +573,7 @@ pub fn tag_with(s: Session, table: &[u64; 1024]) -> Block
 }
 
 fn tag(s: Session) -> [u8; 16]
-    ensures { λ r. ⌜ r ≡ tag-of (sealingOf s) ⌝ }
+    ensures { λ r. ⌜ r ≡ tag-of (sessionOf s) ⌝ }
 {
     let h = s.h;
     let mut table = [0u64; 1024];
@@ -583,7 +583,7 @@ fn tag(s: Session) -> [u8; 16]
 
 // Gives the tag and ends the session: every call after it gives 7. Refused: 7.
 pub fn finish(s: Session) -> Finished
-    ensures { λ r. ⌜ Finishes (finish-call (sealingOf s)) r ⌝ }
+    ensures { λ r. ⌜ Finishes (finish-call (sessionOf s)) r ⌝ }
 {
     if 1 < s.phase {
         return Finished {

@@ -10,7 +10,8 @@ use Rattle.scope.specs.Limits.{most-blocks}
 use Rattle.cipher.specs.Registers.{Registers}
 use Rattle.cipher.specs.Run.{backward, moves}
 use Rattle.start.specs.Start.{start-number}
-use Rattle.start.specs.Trace.{Answer.refused, loaded, unload, trace}
+use Rattle.start.specs.Leads.{Traced.refused}
+use Rattle.start.specs.Trace.{loaded, unload, trace}
 
 module _ (key iv : List ℕ) where
   pub bad-key : ¬ (length key ≡ 32) → start-number key iv ≡ 1

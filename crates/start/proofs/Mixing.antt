@@ -9,13 +9,13 @@ use Rattle.words.specs.Xor.{xors}
 use Rattle.words.specs.Bytes.{Row, IsBlock, numbers}
 use Rattle.words.proofs.Rows.{row-take, row-drop, row-append, xors-row, xors-twice}
 use Rattle.words.proofs.Bytes.{numbers-row}
-use Rattle.cipher.specs.Registers.{Registers, Good}
+use Rattle.cipher.specs.Registers.{Registers, IsRegisters}
 use Rattle.start.specs.Start.{into-a, into-r1}
 
 pub words-row : {x : List ℕ} → IsBlock x → Row 8 65536 (numbers 2 8 x)
 words-row r = numbers-row 2 8 (lit< tt) r
 
-module _ (x : List ℕ) (xb : IsBlock x) (s : Registers) (g : Good s) where
+module _ (x : List ℕ) (xb : IsBlock x) (s : Registers) (g : IsRegisters s) where
   front : Row 8 65536 (take 8 (s .lfsr .a))
   front = row-take 65536 16 (g .cells .in-a) 8 (lit< tt) (lit≤ tt)
 
@@ -29,7 +29,7 @@ module _ (x : List ℕ) (xb : IsBlock x) (s : Registers) (g : Good s) where
   unfolding mixed
   mixed-row = xors-row 16 8 rear (words-row xb)
 
-  pub into-a-good : Good (into-a x s)
+  pub into-a-good : IsRegisters (into-a x s)
   unfolding into-a mixed
   into-a-good =
       record {
@@ -48,7 +48,7 @@ module _ (x : List ℕ) (xb : IsBlock x) (s : Registers) (g : Good s) where
       ∙ take-append-drop 8 (s .lfsr .a) in
       λ i. record { lfsr = record { a = e i; b = s .lfsr .b }; r1 = s .r1; r2 = s .r2; r3 = s .r3 }
 
-  pub into-r1-good : Good (into-r1 x s)
+  pub into-r1-good : IsRegisters (into-r1 x s)
   unfolding into-r1
   into-r1-good = record { cells = g .cells; in-r1 = xors-row 8 16 (g .in-r1) xb; in-r2 = g .in-r2; in-r3 = g .in-r3 }
 

@@ -15,10 +15,9 @@ use Rattle.words.proofs.Rows.{xors-row}
 use Rattle.words.proofs.Bytes.{littles-xor, littles-numbers, numbers-littles}
 use Rattle.words.proofs.Blocks.{Words, bytesOf-block}
 use Rattle.cipher.specs.Registers.{Registers}
-use Rattle.start.specs.declared.Mode.{Mode}
-use Rattle.start.specs.declared.Mode.the-variants.{Plain, Sealed}
-use Rattle.start.specs.Start.{mode-cells, load}
-use Rattle.start.specs.Trace.{Answer.origin, Answer.refused, loads, unload}
+use Rattle.start.specs.Start.{Mode, Mode.plain, Mode.sealed, mode-cells, load}
+use Rattle.start.specs.Leads.{Traced.origin, Traced.refused}
+use Rattle.start.specs.Trace.{loads, unload}
 use Rattle.start.proofs.Mixing.{words-row}
 use Rattle.start.proofs.Undo.{mode-row}
 
@@ -79,14 +78,14 @@ halves-bytes x lo hi p q = λ i. p i ++ q i
 -- ---- what was loaded
 
 module _ (key : List ℕ) (s : Registers) where
-  pub in-plain : loads key Plain s ≡ true → origin (littles 2 (take 8 (s .lfsr .a))) Plain ≡ unload key s
+  pub in-plain : loads key plain s ≡ true → origin (littles 2 (take 8 (s .lfsr .a))) plain ≡ unload key s
   unfolding unload
   in-plain p = rw p
 
-  pub in-sealed : loads key Plain s ≡ false → loads key Sealed s ≡ true → origin (littles 2 (take 8 (s .lfsr .a))) Sealed ≡ unload key s
+  pub in-sealed : loads key plain s ≡ false → loads key sealed s ≡ true → origin (littles 2 (take 8 (s .lfsr .a))) sealed ≡ unload key s
   unfolding unload
   in-sealed p q = rw (p, q)
 
-  pub in-neither : loads key Plain s ≡ false → loads key Sealed s ≡ false → refused 6 ≡ unload key s
+  pub in-neither : loads key plain s ≡ false → loads key sealed s ≡ false → refused 6 ≡ unload key s
   unfolding unload
   in-neither p q = rw (p, q)

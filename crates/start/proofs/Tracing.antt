@@ -1,32 +1,37 @@
 -- Trace finds an IV and mode exactly when they lead to the state, and 6 exactly when none do: n steps back are undone by n steps forward, and
 -- a start's undoing by the start. So a state at a count names one IV and mode, and two starts that differ in either never meet.
 use mathlib.Core.Path.{_≡_, refl, sym, ap, _∙_}
-use mathlib.Core.Logic.{_↔_}
+use mathlib.Core.Bool.{Bool, true, false}
 use mathlib.Core.List.{List}
-use Prim.Native.Nat.{ℕ, _≤_}
+use Prim.Native.Nat.{ℕ, _≤_, _<_}
 use native.Mathlib.Omega.{arith}
+use native.Mathlib.Nat.{lt-irrefl, lt-of-le-of-lt}
+use native.Mathlib.Decide.{decLt}
+use borrow.Author.Tests.{eqb-true, eqb-false}
+use lib.Dec.{eqb}
+use lib.ListN.{length}
 use Rattle.scope.specs.Limits.{most-blocks}
 use Rattle.words.specs.Bytes.{Row, IsBlock}
-use Rattle.cipher.specs.Registers.{Registers, Good}
+use Rattle.words.proofs.Rows.{Below}
+use Rattle.cipher.specs.Registers.{Registers, IsRegisters}
 use Rattle.cipher.specs.Run.{forward, backward, moves}
 use Rattle.cipher.proofs.Moves.{moves-good, moves-undone}
-use Rattle.start.specs.declared.Mode.{Mode}
-use Rattle.start.specs.Start.{start}
-use Rattle.start.specs.Leads.{LeadsTo}
-use Rattle.start.specs.Trace.{Answer, Answer.origin, Answer.refused, loaded, unload, trace}
-use Rattle.start.proofs.Answers.{trace-walks}
+use Rattle.start.specs.Start.{Mode, start}
+use Rattle.start.specs.Leads.{LeadsTo, Traced, Traced.origin, Traced.refused, Traces}
+use Rattle.start.specs.Trace.{loaded, unload, trace}
+use Rattle.start.proofs.Answers.{trace-bad-key, trace-too-far, trace-walks}
 use Rattle.start.proofs.Undo.{start-good, loaded-start, loaded-good, start-loaded}
-use Rattle.start.proofs.Unloading.{unload-load, Loads, unload-loads, unload-six}
+use Rattle.start.proofs.Unloading.{unload-load, Loads, unload-loads, unload-six, refused-six}
 
-origin-one : (a : Answer) (iv iv′ : List ℕ) (m m′ : Mode) → a ≡ origin iv m → a ≡ origin iv′ m′ → (iv ≡ iv′) × (m ≡ m′)
+origin-one : (a : Traced) (iv iv′ : List ℕ) (m m′ : Mode) → a ≡ origin iv m → a ≡ origin iv′ m′ → (iv ≡ iv′) × (m ≡ m′)
 origin-one a iv iv′ m m′ p q = (cc, cc)
 
-never-both : (a : Answer) (iv : List ℕ) (m : Mode) (n : ℕ) → a ≡ origin iv m → a ≡ refused n → ⊥
+never-both : (a : Traced) (iv : List ℕ) (m : Mode) (n : ℕ) → a ≡ origin iv m → a ≡ refused n → ⊥
 never-both a iv m n p q = let e : _≡_ {A = ℕ} 0 1 = cc in omega arith
 
 module _ (key : List ℕ) (k : Row 32 256 key) (n : ℕ) where
   -- what the walk back finds
-  walked : Registers → Answer
+  walked : Registers → Traced
   walked s = unload key (loaded key (moves backward n s))
 
   leads-walked : {iv : List ℕ} {m : Mode} {s : Registers} → LeadsTo key n iv m s → walked s ≡ origin iv m
@@ -37,10 +42,10 @@ module _ (key : List ℕ) (k : Row 32 256 key) (n : ℕ) where
       ∙ ap (unload key) (loaded-start key k iv m (l .iv-block))
       ∙ unload-load key k iv (l .iv-block) m
 
-  walked-leads : (s : Registers) → Good s → (iv : List ℕ) (m : Mode) → walked s ≡ origin iv m → LeadsTo key n iv m s
+  walked-leads : (s : Registers) → IsRegisters s → (iv : List ℕ) (m : Mode) → walked s ≡ origin iv m → LeadsTo key n iv m s
   unfolding walked
   walked-leads s g iv m e =
-      let h : Good (moves backward n s) = moves-good backward n s g in
+      let h : IsRegisters (moves backward n s) = moves-good backward n s g in
       let f : Loads key k (loaded key (moves backward n s)) iv m = unload-loads key k (loaded key (moves backward n s)) iv m (loaded-good key k (moves backward n s) h) e in
       record {
         iv-block = f .iv-block;
@@ -51,22 +56,72 @@ module _ (key : List ℕ) (k : Row 32 256 key) (n : ℕ) where
   pub leads-one : {iv iv′ : List ℕ} {m m′ : Mode} {s : Registers} → LeadsTo key n iv m s → LeadsTo key n iv′ m′ s → (iv ≡ iv′) × (m ≡ m′)
   leads-one {iv} {iv′} {m} {m′} {s} p q = origin-one (walked s) iv iv′ m m′ (leads-walked p) (leads-walked q)
 
-  module _ (fits : n ≤ most-blocks) (s : Registers) where
-    trace-is : trace s key n ≡ walked s
-    unfolding walked
-    trace-is = sym (trace-walks s key n (k .long) fits)
-
-    pub trace-origin : Good s → (iv : List ℕ) (m : Mode) → (trace s key n ≡ origin iv m) ↔ LeadsTo key n iv m s
-    trace-origin g iv m = (λ e. walked-leads s g iv m (sym trace-is ∙ e), λ l. trace-is ∙ leads-walked l)
-
-    pub trace-six : Good s → (trace s key n ≡ refused 6) ↔ ((iv : List ℕ) (m : Mode) → ¬ LeadsTo key n iv m s)
-    unfolding walked
-    trace-six g = (
-      λ e iv m l. never-both (walked s) iv m 6 (leads-walked l) (sym trace-is ∙ e),
-      λ h. trace-is ∙ unload-six key k (loaded key (moves backward n s)) (λ iv m e. h iv m (walked-leads s g iv m e)),
-    )
-
   -- two starts that differ in IV or mode never meet at equal counts
   pub never-meet : (iv iv′ : List ℕ) (m m′ : Mode) → IsBlock iv → IsBlock iv′ → ¬ ((iv ≡ iv′) × (m ≡ m′))
       → ¬ (moves forward n (start key iv m) ≡ moves forward n (start key iv′ m′))
   never-meet iv iv′ m m′ v v′ differ meet = differ (leads-one (record { iv-block = v; arrives = meet }) (record { iv-block = v′; arrives = refl }))
+
+-- ---- what trace answers
+
+refused-one : (a : Traced) (i j : ℕ) → a ≡ refused i → a ≡ refused j → i ≡ j
+refused-one a i j p q = cc
+
+module _ (s : Registers) (g : IsRegisters s) (key : List ℕ) (n : ℕ) where
+  a : Traced
+  a = trace s key n
+
+  module _ {i : ℕ} (e : a ≡ refused i) where
+    not-number : (j : ℕ) → ¬ (i ≡ j) → ¬ (a ≡ refused j)
+    not-number j h f = h (refused-one a i j e f)
+
+    not-found : (iv : List ℕ) (m : Mode) → ¬ (a ≡ origin iv m)
+    not-found iv m f = never-both a iv m i f e
+
+  wrong : ¬ (length key ≡ 32) → Traces s key n a
+  unfolding a
+  wrong h =
+      let e = sym (trace-bad-key s key n h) in
+      record {
+        wrong-key = (λ f. h, λ f. e);
+        too-far = (λ f. absurd (not-number e 9 (omega arith) f), λ f. absurd (h (f .0)));
+        found = λ iv m. (λ f. absurd (not-found e iv m f), λ f. absurd (h (f .0 .0)));
+        none = (λ f. absurd (not-number e 6 (omega arith) f), λ f. absurd (h (f .0 .0)));
+      }
+
+  far : length key ≡ 32 → most-blocks < n → Traces s key n a
+  unfolding a
+  far h k =
+      let e = sym (trace-too-far s key n h k) in
+      record {
+        wrong-key = (λ f. absurd (not-number e 1 (omega arith) f), λ f. absurd (f h));
+        too-far = (λ f. (h, k), λ f. e);
+        found = λ iv m. (λ f. absurd (not-found e iv m f), λ f. absurd (lt-irrefl n (lt-of-le-of-lt (f .0 .1) k)));
+        none = (λ f. absurd (not-number e 6 (omega arith) f), λ f. absurd (lt-irrefl n (lt-of-le-of-lt (f .0 .1) k)));
+      }
+
+  walks : (k : Row 32 256 key) → n ≤ most-blocks → Traces s key n a
+  unfolding a walked
+  walks k fits =
+      let e : trace s key n ≡ walked key k n s = sym (trace-walks s key n (k .long) fits) in
+      let six : (i : ℕ) → a ≡ refused i → i ≡ 6 = λ i f. refused-six key k (loaded key (moves backward n s)) i (sym e ∙ f) in
+      record {
+        wrong-key = (λ f. absurd (let z = six 1 f in omega arith), λ f. absurd (f (k .long)));
+        too-far = (λ f. absurd (let z = six 9 f in omega arith), λ f. absurd (lt-irrefl n (lt-of-le-of-lt fits (f .1))));
+        found = λ iv m. (λ f. ((k .long, fits), walked-leads key k n s g iv m (sym e ∙ f)), λ f. e ∙ leads-walked key k n (f .1));
+        none = (
+          λ f. ((k .long, fits), λ iv m l. never-both a iv m 6 (e ∙ leads-walked key k n l) f),
+          λ f. e ∙ unload-six key k (loaded key (moves backward n s)) (λ iv m h. f .1 iv m (walked-leads key k n s g iv m h)),
+        );
+      }
+
+  -- of every state and every key
+  pub traces : Below 256 key → Traces s key n (trace s key n)
+  unfolding a
+  traces k = by (eqb (length key) 32) refl
+    where
+      count : length key ≡ 32 → Traces s key n (trace s key n)
+      count h = elim (decLt most-blocks n) [ yes q ↦ far h q | no q ↦ let fits : n ≤ most-blocks = omega arith in walks (record { long = h; below = k }) fits ]
+
+      by : (b : Bool) → eqb (length key) 32 ≡ b → Traces s key n (trace s key n)
+      by true e = count (eqb-true (length key) 32 e)
+      by false e = wrong (eqb-false (length key) 32 e)

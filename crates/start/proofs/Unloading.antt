@@ -11,12 +11,11 @@ use Rattle.words.specs.Bytes.{Row, IsBlock, little, littles, numbers, same, zer
 use Rattle.words.proofs.Tests.{and-left, and-right, same-refl, same-eq}
 use Rattle.words.proofs.Rows.{row-take, row-drop}
 use Rattle.words.proofs.Bytes.{littles-numbers, numbers-littles}
-use Rattle.cipher.specs.Registers.{Registers, Good}
+use Rattle.cipher.specs.Registers.{Registers, IsRegisters}
 use Rattle.cipher.proofs.Inverse.{low-block}
-use Rattle.start.specs.declared.Mode.{Mode}
-use Rattle.start.specs.declared.Mode.the-variants.{Plain, Sealed}
-use Rattle.start.specs.Start.{mode-cells, load}
-use Rattle.start.specs.Trace.{Answer.origin, Answer.refused, loads, unload}
+use Rattle.start.specs.Start.{Mode, Mode.plain, Mode.sealed, mode-cells, load}
+use Rattle.start.specs.Leads.{Traced.origin, Traced.refused}
+use Rattle.start.specs.Trace.{loads, unload}
 use Rattle.start.proofs.Mixing.{words-row}
 use Rattle.start.proofs.Undo.{mode-row, low, high}
 
@@ -69,13 +68,13 @@ module _ (key : List ℕ) (k : Row 32 256 key) where
 
   pub unload-load : (iv : List ℕ) → IsBlock iv → (m : Mode) → unload key (load key iv m) ≡ origin iv m
   unfolding unload same littles little
-  unload-load iv v Plain = rw (loads-load iv v Plain Plain) (ap (λ (i : List ℕ). origin i Plain) (in-front iv v Plain))
-  unload-load iv v Sealed =
-      rw (loads-load iv v Sealed Plain, loads-load iv v Sealed Sealed) (ap (λ (i : List ℕ). origin i Sealed) (in-front iv v Sealed))
+  unload-load iv v plain = rw (loads-load iv v plain plain) (ap (λ (i : List ℕ). origin i plain) (in-front iv v plain))
+  unload-load iv v sealed =
+      rw (loads-load iv v sealed plain, loads-load iv v sealed sealed) (ap (λ (i : List ℕ). origin i sealed) (in-front iv v sealed))
 
   -- ---- what is found loads the registers
 
-  load-loads : (m : Mode) (s : Registers) → Good s → loads key m s ≡ true → load key (littles 2 (take 8 (s .lfsr .a))) m ≡ s
+  load-loads : (m : Mode) (s : Registers) → IsRegisters s → loads key m s ≡ true → load key (littles 2 (take 8 (s .lfsr .a))) m ≡ s
   unfolding loads load
   load-loads m s g e =
       let c0 : Bool = same (littles 2 (drop 8 (s .lfsr .a))) (take 16 key) in
@@ -110,12 +109,12 @@ module _ (key : List ℕ) (k : Row 32 256 key) where
     pub iv-block : IsBlock iv
     pub is : load key iv m ≡ s
 
-  found : (m : Mode) (s : Registers) → Good s → loads key m s ≡ true → Loads s (littles 2 (take 8 (s .lfsr .a))) m
+  found : (m : Mode) (s : Registers) → IsRegisters s → loads key m s ≡ true → Loads s (littles 2 (take 8 (s .lfsr .a))) m
   found m s g e = record { iv-block = low-block (g .cells .in-a); is = load-loads m s g e }
 
-  pub unload-loads : (s : Registers) (iv : List ℕ) (m : Mode) → Good s → unload key s ≡ origin iv m → Loads s iv m
+  pub unload-loads : (s : Registers) (iv : List ℕ) (m : Mode) → IsRegisters s → unload key s ≡ origin iv m → Loads s iv m
   unfolding unload
-  unload-loads s iv m g e = go (loads key Plain s) refl (loads key Sealed s) refl
+  unload-loads s iv m g e = go (loads key plain s) refl (loads key sealed s) refl
     where
       b : List ℕ
       b = littles 2 (take 8 (s .lfsr .a))
@@ -123,17 +122,35 @@ module _ (key : List ℕ) (k : Row 32 256 key) where
       moved : (n : Mode) → Loads s b n → origin b n ≡ origin iv m → Loads s iv m
       moved n f q = let x : b ≡ iv = cc in let y : n ≡ m = cc in rw x at (rw y at f)
 
-      go : (p : Bool) → loads key Plain s ≡ p → (q : Bool) → loads key Sealed s ≡ q → Loads s iv m
-      go true p q k = moved Plain (found Plain s g p) (rw p at e)
-      go false p true k = moved Sealed (found Sealed s g k) (rw k at (rw p at e))
+      go : (p : Bool) → loads key plain s ≡ p → (q : Bool) → loads key sealed s ≡ q → Loads s iv m
+      go true p q k = moved plain (found plain s g p) (rw p at e)
+      go false p true k = moved sealed (found sealed s g k) (rw k at (rw p at e))
       go false p false k = let z : refused 6 ≡ origin iv m = rw k at (rw p at e) in absurd (let w : _≡_ {A = ℕ} 0 1 = cc in omega arith)
 
   -- an answer is an origin or 6
   pub unload-six : (s : Registers) → ((iv : List ℕ) (m : Mode) → ¬ (unload key s ≡ origin iv m)) → unload key s ≡ refused 6
   unfolding unload
-  unload-six s h = go (loads key Plain s) refl (loads key Sealed s) refl
+  unload-six s h = go (loads key plain s) refl (loads key sealed s) refl
     where
-      go : (p : Bool) → loads key Plain s ≡ p → (q : Bool) → loads key Sealed s ≡ q → unload key s ≡ refused 6
-      go true p q k = absurd (h (littles 2 (take 8 (s .lfsr .a))) Plain (rw p))
-      go false p true k = absurd (h (littles 2 (take 8 (s .lfsr .a))) Sealed (rw (p, k)))
+      go : (p : Bool) → loads key plain s ≡ p → (q : Bool) → loads key sealed s ≡ q → unload key s ≡ refused 6
+      go true p q k = absurd (h (littles 2 (take 8 (s .lfsr .a))) plain (rw p))
+      go false p true k = absurd (h (littles 2 (take 8 (s .lfsr .a))) sealed (rw (p, k)))
       go false p false k = rw (p, k)
+
+  pub refused-six : (s : Registers) (n : ℕ) → unload key s ≡ refused n → n ≡ 6
+  unfolding unload
+  refused-six s n e = go (loads key plain s) refl (loads key sealed s) refl
+    where
+      iv : List ℕ
+      iv = littles 2 (take 8 (s .lfsr .a))
+
+      never : (m : Mode) → origin iv m ≡ refused n → ⊥
+      never m f = let w : _≡_ {A = ℕ} 0 1 = cc in omega arith
+
+      same-number : refused 6 ≡ refused n → n ≡ 6
+      same-number f = cc
+
+      go : (p : Bool) → loads key plain s ≡ p → (q : Bool) → loads key sealed s ≡ q → n ≡ 6
+      go true p q k = absurd (never plain (rw p at e))
+      go false p true k = absurd (never sealed (rw k at (rw p at e)))
+      go false p false k = same-number (rw k at (rw p at e))

@@ -1,4 +1,4 @@
--- What the code's answers say, in the terms of the definitions.
+-- What the code's modes and answers say, in the terms of the definitions.
 use Prim.Native.Nat.{ℕ}
 use mathlib.Core.Path.{_≡_}
 use mathlib.Core.List.{List, _++_}
@@ -9,12 +9,17 @@ use Rattle.cipher.specs.declared.State.{State}
 use Rattle.cipher.specs.declared.Moved.{Moved}
 use Rattle.cipher.specs.Step.{z}
 use Rattle.cipher.specs.Machine.{registersOf}
-use Rattle.start.specs.declared.Mode.{Mode}
+use Rattle.start.specs.declared.Mode as machine-mode
+use Rattle.start.specs.declared.Mode.the-variants.{Plain, Sealed}
 use Rattle.start.specs.declared.Started.{Started}
-use Rattle.start.specs.declared.Traced.{Traced}
+use Rattle.start.specs.declared.Traced as machine
 use Rattle.start.specs.declared.Traced.the-variants.{Found, Refused}
-use Rattle.start.specs.Start.{initial, start, start-number, blank}
-use Rattle.start.specs.Trace.{Answer, Answer.origin, Answer.refused}
+use Rattle.start.specs.Start.{Mode, Mode.plain, Mode.sealed, initial, start, start-number, blank}
+use Rattle.start.specs.Leads.{Traced, Traced.origin, Traced.refused}
+
+abbrev pub modeOf : machine-mode.Mode → Mode
+modeOf Plain = plain
+modeOf Sealed = sealed
 
 -- one of a start's 16 steps: the registers, and the z that was xored in
 pub record Initials (s : State) (r : Moved) : Type 0 where
@@ -27,6 +32,6 @@ pub record Starts (key iv : List ℕ) (m : Mode) (r : Started) : Type 0 where
   pub state : registersOf (r .state) ≡ granted (start-number key iv) (start key iv m) blank
 
 -- document 01's number and values for each case of the answer to a trace: the IV is the two halves' bytes, low byte first
-abbrev pub answerOf : Traced → Answer
-answerOf (Found o) = origin (little 8 (o .lo) ++ little 8 (o .hi)) (o .mode)
-answerOf (Refused n) = refused n
+abbrev pub tracedOf : machine.Traced → Traced
+tracedOf (Found o) = origin (little 8 (o .lo) ++ little 8 (o .hi)) (modeOf (o .mode))
+tracedOf (Refused n) = refused n

@@ -10,13 +10,17 @@ use Rattle.words.specs.Xor.{xors}
 use Rattle.words.specs.Bytes.{numbers, zeros}
 use Rattle.cipher.specs.Registers.{Registers}
 use Rattle.cipher.specs.Step.{z, step}
-use Rattle.start.specs.declared.Mode.{Mode}
-use Rattle.start.specs.declared.Mode.the-variants.{Plain, Sealed}
+use Rattle.cipher.specs.Run.{forward, moves}
+
+-- the two modes: plain, and the paper's AEAD mode (section 4), which document 01 calls sealed
+pub data Mode : Type 0 where
+  plain : Mode
+  sealed : Mode
 
 -- what b0 to b7 are loaded with (12)
 abbrev pub mode-cells : Mode → List ℕ
-mode-cells Plain = replicate 8 0
-mode-cells Sealed = 0x6c41 ∷ 0x7865 ∷ 0x6b45 ∷ 0x2064 ∷ 0x694a ∷ 0x676e ∷ 0x6854 ∷ 0x6d6f ∷ []
+mode-cells plain = replicate 8 0
+mode-cells sealed = 0x6c41 ∷ 0x7865 ∷ 0x6b45 ∷ 0x2064 ∷ 0x694a ∷ 0x676e ∷ 0x6854 ∷ 0x6d6f ∷ []
 
 -- a0 to a7 are the IV's words and a8 to a15 the key's first eight, b8 to b15 its last eight; R1 to R3 are zero (lines 2 to 6)
 unfoldable pub load : (key iv : List ℕ) → Mode → Registers
@@ -53,6 +57,10 @@ initials (suc n) s = initial (initials n s)
 -- k0 to k7 are xored into R1 at the end of step 15, k8 to k15 at the end of step 16 (lines 13 and 14)
 unfoldable pub start : (key iv : List ℕ) → Mode → Registers
 start key iv m = into-r1 (drop 16 key) (initial (into-r1 (take 16 key) (initials 15 (load key iv m))))
+
+-- block i of the keystream in sealed mode: what step i + 1 behind the start gives
+abbrev pub keystream : (key iv : List ℕ) → ℕ → List ℕ
+keystream key iv i = z (moves forward i (start key iv sealed))
 
 -- 1, 2
 unfoldable pub start-number : (key iv : List ℕ) → ℕ

@@ -1,6 +1,6 @@
 -- Trace (document 01, "Start and trace"): walking back from a state to the IV and mode that lead to it, or a refusal. How the walk goes need
--- not be believed by reading: proofs/Tracing.antt shows that it finds an IV and mode exactly when they lead to the state, and 6 exactly when
--- none do.
+-- not be believed by reading: the contract of `start::trace` says of its answer, beside the equation with this, what `Traces` of Leads.antt says,
+-- in terms of "leads to" alone.
 use Prim.Native.Nat.{ℕ, zero, suc}
 use mathlib.Core.Bool.{Bool, not, _&&_}
 use mathlib.Core.List.{List}
@@ -12,14 +12,8 @@ use Rattle.words.specs.Bytes.{littles, same, zeros}
 use Rattle.cipher.specs.Registers.{Registers}
 use Rattle.cipher.specs.Back.{back, z-before}
 use Rattle.cipher.specs.Run.{backward, moves}
-use Rattle.start.specs.declared.Mode.{Mode}
-use Rattle.start.specs.declared.Mode.the-variants.{Plain, Sealed}
-use Rattle.start.specs.Start.{mode-cells, into-a, into-r1}
-
--- "its answer is either the stay number with its mode or a refusal"
-pub data Answer : Type 0 where
-  origin : (iv : List ℕ) (m : Mode) → Answer
-  refused : ℕ → Answer
+use Rattle.start.specs.Start.{Mode, Mode.plain, Mode.sealed, mode-cells, into-a, into-r1}
+use Rattle.start.specs.Leads.{Traced, Traced.origin, Traced.refused}
 
 -- one of the 16 steps undone: z is had without a8 to a15, xored out of them, and the step goes back
 unfoldable pub uninitial : Registers → Registers
@@ -40,14 +34,14 @@ loads key m s =
     && same (littles 2 (drop 8 (s .lfsr .b))) (drop 16 key) && same (s .r1) zeros && same (s .r2) zeros && same (s .r3) zeros
 
 -- the IV and mode that load them, or 6
-unfoldable pub unload : (key : List ℕ) → Registers → Answer
+unfoldable pub unload : (key : List ℕ) → Registers → Traced
 unload key s =
-    pick (loads key Plain s)
-    (origin (littles 2 (take 8 (s .lfsr .a))) Plain)
-    (pick (loads key Sealed s) (origin (littles 2 (take 8 (s .lfsr .a))) Sealed) (refused no-origin))
+    pick (loads key plain s)
+    (origin (littles 2 (take 8 (s .lfsr .a))) plain)
+    (pick (loads key sealed s) (origin (littles 2 (take 8 (s .lfsr .a))) sealed) (refused no-origin))
 
 -- 1, 9, 6
-unfoldable pub trace : Registers → (key : List ℕ) → (count : ℕ) → Answer
+unfoldable pub trace : Registers → (key : List ℕ) → (count : ℕ) → Traced
 trace s key n =
     pick (not (eqb (length key) 32))
     (refused key-length)

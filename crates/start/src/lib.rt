@@ -11,8 +11,10 @@ ghost use Rattle.cipher.specs.Run.{backward, moves};
 ghost use Rattle.cipher.specs.Machine.{registersOf};
 ghost use Rattle.start.specs.Start;
 ghost use Rattle.start.specs.Start.{blank, mode-cells};
+ghost use Rattle.start.specs.Leads;
+ghost use Rattle.start.specs.Leads.{Traces};
 ghost use Rattle.start.specs.Trace;
-ghost use Rattle.start.specs.Machine.{Initials, Starts, answerOf};
+ghost use Rattle.start.specs.Machine.{modeOf, Initials, Starts, tracedOf};
 use cipher::Moved;
 use cipher::State;
 use lfsr::Lfsr;
@@ -49,7 +51,7 @@ fn cells(lo: Block, hi: Block) -> [u16; 16]
 
 // What b0 to b7 are loaded with.
 fn mode_block(mode: Mode) -> Block
-    ensures { λ r. ⌜ bytesOf r ≡ littles 2 (mode-cells mode) ⌝ }
+    ensures { λ r. ⌜ bytesOf r ≡ littles 2 (mode-cells (modeOf mode)) ⌝ }
 {
     match mode {
         Mode::Plain => words::zero(),
@@ -64,7 +66,7 @@ fn mode_block(mode: Mode) -> Block
 
 // The registers loaded with the two halves of the key and the IV.
 pub fn load(low: Block, high: Block, iv: Block, mode: Mode) -> State
-    ensures { λ r. ⌜ registersOf r ≡ Start.load (bytesOf low ++ bytesOf high) (bytesOf iv) mode ⌝ }
+    ensures { λ r. ⌜ registersOf r ≡ Start.load (bytesOf low ++ bytesOf high) (bytesOf iv) (modeOf mode) ⌝ }
 {
     let a = cells(iv, low);
     let b = cells(mode_block(mode), high);
@@ -137,7 +139,7 @@ pub struct Started {
 }
 
 fn sixteen_steps(low: Block, high: Block, iv: Block, mode: Mode) -> State
-    ensures { λ r. ⌜ registersOf r ≡ Start.start (bytesOf low ++ bytesOf high) (bytesOf iv) mode ⌝ }
+    ensures { λ r. ⌜ registersOf r ≡ Start.start (bytesOf low ++ bytesOf high) (bytesOf iv) (modeOf mode) ⌝ }
 {
     let sbox = aes::sbox();
     let s = initials(load(low, high, iv, mode), 15, &sbox);
@@ -165,7 +167,7 @@ pub fn blank_state() -> State
 
 // Start under a key of 32 bytes with an IV of 16, in either mode. Refused: 1 for the key's length, 2 for the IV's.
 pub fn start(key: &[u8], iv: &[u8], mode: Mode) -> Started
-    ensures { λ r. ⌜ Starts (now (key .entry)) (now (iv .entry)) mode r ⌝ }
+    ensures { λ r. ⌜ Starts (now (key .entry)) (now (iv .entry)) (modeOf mode) r ⌝ }
 {
     if key.len() != 32 {
         return Started {
@@ -254,7 +256,7 @@ fn loaded(s: State, low: Block, high: Block, inverse: &[u8; 256]) -> State
 
 // Whether a start in this mode under this key loads the state, with some IV.
 fn loads(s: State, low: Block, high: Block, mode: Mode) -> bool
-    ensures { λ r. ⌜ r ≡ Trace.loads (bytesOf low ++ bytesOf high) mode (registersOf s) ⌝ }
+    ensures { λ r. ⌜ r ≡ Trace.loads (bytesOf low ++ bytesOf high) (modeOf mode) (registersOf s) ⌝ }
 {
     let l = s.lfsr;
     let a = l.a;
@@ -290,7 +292,7 @@ pub enum Traced {
 }
 
 fn found(iv: Block, mode: Mode) -> Traced
-    ensures { λ r. ⌜ answerOf r ≡ Trace.Answer.origin (bytesOf iv) mode ⌝ }
+    ensures { λ r. ⌜ tracedOf r ≡ Leads.Traced.origin (bytesOf iv) (modeOf mode) ⌝ }
 {
     Traced::Found(Origin {
         lo: word64(iv.w0, iv.w1),
@@ -300,7 +302,7 @@ fn found(iv: Block, mode: Mode) -> Traced
 }
 
 fn unload(s: State, low: Block, high: Block) -> Traced
-    ensures { λ r. ⌜ answerOf r ≡ Trace.unload (bytesOf low ++ bytesOf high) (registersOf s) ⌝ }
+    ensures { λ r. ⌜ tracedOf r ≡ Trace.unload (bytesOf low ++ bytesOf high) (registersOf s) ⌝ }
 {
     let l = s.lfsr;
     let a = l.a;
@@ -317,7 +319,8 @@ fn unload(s: State, low: Block, high: Block) -> Traced
 // Document 01's trace: the IV and mode that lead to a state under a key at a count of blocks drawn. Refused: 1 for the key's length, 9 for
 // the count, 6 where no IV and mode lead there.
 pub fn trace(s: State, key: &[u8], count: u64) -> Traced
-    ensures { λ r. ⌜ answerOf r ≡ Trace.trace (registersOf s) (now (key .entry)) count ⌝ }
+    ensures leads { λ r. ⌜ Traces (registersOf s) (now (key .entry)) count (tracedOf r) ⌝ }
+    ensures walk { λ r. ⌜ tracedOf r ≡ Trace.trace (registersOf s) (now (key .entry)) count ⌝ }
 {
     if key.len() != 32 {
         return Traced::Refused(scope::KEY_LENGTH);

@@ -1,40 +1,124 @@
--- The answers of a resume, by the key's length, the layout rules and what the trace finds.
-use mathlib.Core.Path.{_≡_, ap, _∙_}
-use mathlib.Core.Bool.{true, false}
+-- The answers of a resume, by the key's length, the layout rules and what the trace finds: which IV leads to the block's registers, or that none does.
+use mathlib.Core.Path.{_≡_, refl, sym, ap, subst, _∙_}
+use mathlib.Core.Bool.{true, false, true≢false}
 use mathlib.Core.List.{List}
-use Prim.Native.Nat.{ℕ}
+use Prim.Native.Nat.{ℕ, suc, _+_, _≤_}
+use native.Mathlib.Omega.{arith}
 use borrow.Author.Tests.{eq-eqb, ne-eqb}
 use lib.ListN.{length}
-use Rattle.start.specs.declared.Mode.the-variants.{Plain, Sealed}
-use Rattle.start.specs.Trace.{Answer, Answer.origin, Answer.refused, trace}
-use Rattle.session.specs.Sealing.{drawn-at}
+use Rattle.scope.specs.Limits.{most-blocks}
+use Rattle.words.specs.Bytes.{Row}
+use Rattle.cipher.specs.Registers.{Registers}
+use Rattle.cipher.specs.Run.{forward, backward, made, moves}
+use Rattle.cipher.proofs.Moves.{moves-good, made-again}
+use Rattle.start.specs.Start.{Mode, Mode.plain, Mode.sealed, start, keystream}
+use Rattle.start.specs.Leads.{LeadsTo, Traced, Traced.origin, Traced.refused, Traceable, Traces}
+use Rattle.start.specs.Trace.{trace}
+use Rattle.start.proofs.Undo.{start-good}
+use Rattle.session.specs.Session.{ceil16, drawn-at}
 use Rattle.layout.specs.Block.{read}
 use Rattle.layout.specs.Rules.{well-laid}
-use Rattle.suspend.specs.Calls.{turned-away, revived, by-origin, resume-call}
+use Rattle.layout.proofs.Obeying.{laid-text}
+use Rattle.suspend.specs.Calls.{Resumed, not-resumed, revived, by-origin, resume-call, LeadsToBlock, Revives}
+
+-- the step before stands the block drawn last
+pub last-drawn : (key iv : List ℕ) → Row 32 256 key → (t : ℕ) {s : Registers} → LeadsTo key (drawn-at t) iv sealed s
+    → made backward s ≡ keystream key iv (1 + ceil16 t)
+unfolding moves made
+last-drawn key iv k t l =
+    let n : ℕ = 1 + ceil16 t in
+    let e : drawn-at t ≡ suc n = omega arith in
+    ap (made backward) (sym (l .arrives) ∙ ap (λ (i : ℕ). moves forward i (start key iv sealed)) e)
+    ∙ made-again forward (moves forward n (start key iv sealed)) (moves-good forward n (start key iv sealed) (start-good key k iv sealed (l .iv-block)))
 
 module _ (key b : List ℕ) where
-  pub resume-bad-key : ¬ (length key ≡ 32) → resume-call key b ≡ turned-away 1
+  -- ---- 1 and 8
+
+  pub resume-bad-key : ¬ (length key ≡ 32) → not-resumed 1 ≡ resume-call key b
   unfolding resume-call
   resume-bad-key h = rw (ne-eqb (length key) 32 h)
 
-  pub resume-bad-block : length key ≡ 32 → well-laid b ≡ false → resume-call key b ≡ turned-away 8
-  unfolding resume-call
-  resume-bad-block h w = rw (eq-eqb (length key) 32 h, w)
+  pub revives-bad-key : ¬ (length key ≡ 32) → Revives key b (not-resumed 1)
+  revives-bad-key h =
+      record {
+        wrong-key = (λ e. h, λ f. refl);
+        bad = (λ e. absurd (omega arith), λ f. absurd (h (f .0)));
+        found = λ iv. (λ e. absurd (omega arith), λ f. absurd (h (f .0 .0)));
+        none = (λ e. absurd (omega arith), λ f. absurd (h (f .0 .0)));
+        session = λ e. absurd (omega arith);
+      }
 
-  -- the trace decides
-  module _ (h : length key ≡ 32) (w : well-laid b ≡ true) {a : Answer} (t : a ≡ trace (read b .registers) key (drawn-at (read b .text))) where
-    pub resume-traced : resume-call key b ≡ by-origin key (read b) a
+  module _ (h : length key ≡ 32) where
+    pub resume-bad-block : well-laid b ≡ false → not-resumed 8 ≡ resume-call key b
     unfolding resume-call
-    resume-traced = rw (eq-eqb (length key) 32 h, w, ← t)
+    resume-bad-block w = rw (eq-eqb (length key) 32 h, w)
 
-    pub resume-refused : (n : ℕ) → a ≡ refused n → resume-call key b ≡ turned-away 6
-    unfolding by-origin
-    resume-refused n e = resume-traced ∙ ap (by-origin key (read b)) e
+    pub revives-bad-block : well-laid b ≡ false → Revives key b (not-resumed 8)
+    revives-bad-block w =
+        let never : well-laid b ≡ true → ⊥ = λ e. true≢false (sym e ∙ w) in
+        record {
+          wrong-key = (λ e. absurd (omega arith), λ f. absurd (f h));
+          bad = (λ e. (h, w), λ f. refl);
+          found = λ iv. (λ e. absurd (omega arith), λ f. absurd (never (f .0 .1)));
+          none = (λ e. absurd (omega arith), λ f. absurd (never (f .0 .1)));
+          session = λ e. absurd (omega arith);
+        }
 
-    pub resume-plain : (iv : List ℕ) → a ≡ origin iv Plain → resume-call key b ≡ turned-away 6
-    unfolding by-origin
-    resume-plain iv e = resume-traced ∙ ap (by-origin key (read b)) e
+    -- ---- the trace decides
 
-    pub resume-sealed : (iv : List ℕ) → a ≡ origin iv Sealed → resume-call key b ≡ record { number = 0; iv = iv; session = revived key iv (read b) }
-    unfolding by-origin
-    resume-sealed iv e = resume-traced ∙ ap (by-origin key (read b)) e
+    module _ (w : well-laid b ≡ true) {a : Traced} where
+      module _ (t : a ≡ trace (read b .registers) key (drawn-at (read b .text))) where
+        resume-traced : by-origin key (read b) a ≡ resume-call key b
+        unfolding resume-call
+        resume-traced = rw (eq-eqb (length key) 32 h, w, ← t)
+
+        pub resume-refused : (n : ℕ) → a ≡ refused n → not-resumed 6 ≡ resume-call key b
+        unfolding by-origin
+        resume-refused n e = sym (ap (by-origin key (read b)) e) ∙ resume-traced
+
+        pub resume-plain : (iv : List ℕ) → a ≡ origin iv plain → not-resumed 6 ≡ resume-call key b
+        unfolding by-origin
+        resume-plain iv e = sym (ap (by-origin key (read b)) e) ∙ resume-traced
+
+        pub resume-sealed : (iv : List ℕ) → a ≡ origin iv sealed → record { number = 0; iv = iv; session = revived key iv (read b) } ≡ resume-call key b
+        unfolding by-origin
+        resume-sealed iv e = sym (ap (by-origin key (read b)) e) ∙ resume-traced
+
+      module _ (t : Traces (read b .registers) key (drawn-at (read b .text)) a) where
+        fits : Traceable key (drawn-at (read b .text))
+        fits = (h, omega (arith, laid-text b w))
+
+        traced : (iv : List ℕ) → LeadsToBlock key b iv → a ≡ origin iv sealed
+        traced iv l = t .found iv sealed .1 (fits, l)
+
+        pub leads-there : (iv : List ℕ) → a ≡ origin iv sealed → LeadsToBlock key b iv
+        leads-there iv e = t .found iv sealed .0 e .1
+
+        nowhere : ((iv : List ℕ) → ¬ (a ≡ origin iv sealed)) → Revives key b (not-resumed 6)
+        nowhere never =
+            record {
+              wrong-key = (λ e. absurd (omega arith), λ f. absurd (f h));
+              bad = (λ e. absurd (omega arith), λ f. absurd (true≢false (sym w ∙ f .1)));
+              found = λ iv. (λ e. absurd (omega arith), λ f. absurd (never iv (traced iv (f .1))));
+              none = (λ e. ((h, w), λ iv l. never iv (traced iv l)), λ f. refl);
+              session = λ e. absurd (omega arith);
+            }
+
+        pub revives-refused : (n : ℕ) → a ≡ refused n → Revives key b (not-resumed 6)
+        revives-refused n e = nowhere (λ iv f. let z : _≡_ {A = ℕ} 0 1 = cc in omega arith)
+
+        pub revives-plain : (iv : List ℕ) → a ≡ origin iv plain → Revives key b (not-resumed 6)
+        revives-plain iv e = nowhere (λ v f. let z : _≡_ {A = ℕ} 0 1 = cc in omega arith)
+
+        pub revives-sealed : (iv : List ℕ) → a ≡ origin iv sealed → Revives key b (record { number = 0; iv = iv; session = revived key iv (read b) })
+        revives-sealed iv e =
+            record {
+              wrong-key = (λ f. absurd (omega arith), λ f. absurd (f h));
+              bad = (λ f. absurd (omega arith), λ f. absurd (true≢false (sym w ∙ f .1)));
+              found = λ v. (λ f. ((h, w), leads-there v (e ∙ ap (λ (u : List ℕ). origin u sealed) (f .1))), λ f. (refl, one v (traced v (f .1))));
+              none = (λ f. absurd (omega arith), λ f. absurd (f .1 iv (leads-there iv e)));
+              session = λ f. refl;
+            }
+          where
+            one : (v : List ℕ) → a ≡ origin v sealed → iv ≡ v
+            one v f = cc

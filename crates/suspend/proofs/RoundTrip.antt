@@ -12,71 +12,61 @@ use Rattle.words.specs.Bytes.{Row, IsBlock, part}
 use Rattle.cipher.specs.Step.{z}
 use Rattle.cipher.specs.Run.{forward, backward, made, moves}
 use Rattle.cipher.proofs.Moves.{moves-good, made-again}
-use Rattle.start.specs.declared.Mode.the-variants.{Sealed}
-use Rattle.start.specs.Start.{start}
-use Rattle.start.specs.Trace.{Answer.origin, trace}
+use Rattle.start.specs.Start.{Mode.sealed, start}
+use Rattle.start.specs.Leads.{Traced.origin}
+use Rattle.start.specs.Trace.{trace}
 use Rattle.start.proofs.Undo.{start-good}
-use Rattle.start.proofs.Tracing.{trace-origin}
-use Rattle.session.specs.Sealing.{Sealing, ceil16, drawn-at}
+use Rattle.start.proofs.Tracing.{traces}
+use Rattle.session.specs.Session.{Session, ceil16, drawn-at}
 use Rattle.layout.specs.Block.{registers-at, block-of}
 use Rattle.layout.specs.Rules.{Fine}
 use Rattle.layout.proofs.Written.{block-row, block-laid, registers-block, read-block}
-use Rattle.suspend.specs.Calls.{kept-of, suspend-number, suspend-call, revived, by-origin, resume-call}
+use Rattle.suspend.specs.Calls.{suspended-of, suspend-number, suspend-call, revived, by-origin, resume-call}
 
 -- what a session is where key and IV lead, at the blocks that its text has drawn
-pub record Led (key iv : List ℕ) (s : Sealing) : Type 0 where
-  pub fine : Fine (kept-of s)
-  pub registers-led : s .registers ≡ moves forward (drawn-at (s .text)) (start key iv Sealed)
-  pub h-led : s .h ≡ z (start key iv Sealed)
-  pub pad-led : s .pad ≡ z (moves forward 1 (start key iv Sealed))
-  pub current-led : s .current ≡ z (moves forward (1 + ceil16 (s .text)) (start key iv Sealed))
+pub record Led (key iv : List ℕ) (s : Session) : Type 0 where
+  pub fine : Fine (suspended-of s)
+  pub registers-led : s .registers ≡ moves forward (drawn-at (s .text)) (start key iv sealed)
+  pub h-led : s .h ≡ z (start key iv sealed)
+  pub pad-led : s .pad ≡ z (moves forward 1 (start key iv sealed))
+  pub current-led : s .current ≡ z (moves forward (1 + ceil16 (s .text)) (start key iv sealed))
 
-pub suspend-session : (s : Sealing) (out : List ℕ) → suspend-call s out .session ≡ s
+pub suspend-session : (s : Session) (out : List ℕ) → suspend-call s out .session ≡ s
 unfolding suspend-call
 suspend-session s out = refl
 
-module _ (s : Sealing) (f : Fine (kept-of s)) where
+module _ (s : Session) (f : Fine (suspended-of s)) where
   -- an output of 512 bytes is long enough
   pub suspend-accepted : (out : List ℕ) → 512 ≤ length out → suspend-call s out .number ≡ 0
   unfolding suspend-call suspend-number
   suspend-accepted out h = rw (lt-ltb (s .phase) 2 (omega (arith, f .phase-is)), le-ltb (length out) 512 h)
 
   module _ (out : List ℕ) (n : suspend-call s out .number ≡ 0) where
-    writes : suspend-call s out .out ≡ block-of (kept-of s) ++ drop 512 out
+    writes : suspend-call s out .out ≡ block-of (suspended-of s) ++ drop 512 out
     unfolding suspend-call
-    writes = ap (λ (i : ℕ). granted i (block-of (kept-of s) ++ drop 512 out) out) n
+    writes = ap (λ (i : ℕ). granted i (block-of (suspended-of s) ++ drop 512 out) out) n
 
-    pub suspend-block : take 512 (suspend-call s out .out) ≡ block-of (kept-of s)
-    suspend-block = ap (take 512) writes ∙ take-at (block-of (kept-of s)) (drop 512 out) 512 (block-row (kept-of s) f .long)
+    pub suspend-block : take 512 (suspend-call s out .out) ≡ block-of (suspended-of s)
+    suspend-block = ap (take 512) writes ∙ take-at (block-of (suspended-of s)) (drop 512 out) 512 (block-row (suspended-of s) f .long)
 
     -- bytes 16 to 127 list the session's registers
     pub suspend-registers : registers-at (part 16 112 (suspend-call s out .out)) ≡ s .registers
     suspend-registers =
-        let b : List ℕ = block-of (kept-of s) in
-        let long : length b ≡ 512 = block-row (kept-of s) f .long in
+        let b : List ℕ = block-of (suspended-of s) in
+        let long : length b ≡ 512 = block-row (suspended-of s) f .long in
         ap (λ (w : List ℕ). registers-at (part 16 112 w)) writes
         ∙ ap (λ (w : List ℕ). registers-at (take 112 w)) (drop-append-le 16 b (drop 512 out) (omega arith))
         ∙ ap registers-at (take-append-le 112 (drop 16 b) (drop 512 out) (rw (length-drop 16 b) (omega arith)))
-        ∙ registers-block (kept-of s) f
+        ∙ registers-block (suspended-of s) f
 
-module _ (key iv : List ℕ) (k : Row 32 256 key) (v : IsBlock iv) (s : Sealing) (l : Led key iv s) where
-  traces : trace (s .registers) key (drawn-at (s .text)) ≡ origin iv Sealed
-  traces =
-      trace-origin key k (drawn-at (s .text)) (omega (arith, l .fine .text-fits)) (s .registers) (l .fine .registers-good) iv Sealed
-      .1 (record { iv-block = v; arrives = sym (l .registers-led) })
+module _ (key iv : List ℕ) (k : Row 32 256 key) (v : IsBlock iv) (s : Session) (l : Led key iv s) where
+  traced : trace (s .registers) key (drawn-at (s .text)) ≡ origin iv sealed
+  traced =
+      traces (s .registers) (l .fine .registers-good) key (drawn-at (s .text)) (k .below)
+      .found iv sealed .1 ((k .long, omega (arith, l .fine .text-fits)), record { iv-block = v; arrives = sym (l .registers-led) })
 
-  -- one step back stands the block drawn last
-  last-drawn : made backward (s .registers) ≡ s .current
-  unfolding moves made
-  last-drawn =
-      let n : ℕ = 1 + ceil16 (s .text) in
-      let e : drawn-at (s .text) ≡ suc n = omega arith in
-      ap (made backward) (l .registers-led ∙ ap (λ (i : ℕ). moves forward i (start key iv Sealed)) e)
-      ∙ made-again forward (moves forward n (start key iv Sealed)) (moves-good forward n (start key iv Sealed) (start-good key k iv Sealed v))
-      ∙ sym (l .current-led)
-
-  revived-same : revived key iv (kept-of s) ≡ s
-  unfolding revived
+  revived-same : revived key iv (suspended-of s) ≡ s
+  unfolding revived moves
   revived-same =
       λ i. record {
         phase = s .phase;
@@ -85,19 +75,19 @@ module _ (key iv : List ℕ) (k : Row 32 256 key) (v : IsBlock iv) (s : Sealing)
         registers = s .registers;
         h = sym (l .h-led) i;
         pad = sym (l .pad-led) i;
-        current = last-drawn i;
+        current = sym (l .current-led) i;
         sum = s .sum;
       }
 
-  origin-found : by-origin key (kept-of s) (origin iv Sealed) ≡ record { number = 0; iv = iv; session = s }
+  origin-found : by-origin key (suspended-of s) (origin iv sealed) ≡ record { number = 0; iv = iv; session = s }
   unfolding by-origin
-  origin-found = ap (λ (u : Sealing). record { number = 0; iv = iv; session = u }) revived-same
+  origin-found = ap (λ (u : Session). record { number = 0; iv = iv; session = u }) revived-same
 
-  resume-block : resume-call key (block-of (kept-of s)) ≡ record { number = 0; iv = iv; session = s }
+  resume-block : resume-call key (block-of (suspended-of s)) ≡ record { number = 0; iv = iv; session = s }
   unfolding resume-call
   resume-block =
-      rw (eq-eqb (length key) 32 (k .long), block-laid (kept-of s) (l .fine), read-block (kept-of s) (l .fine))
-      (ap (by-origin key (kept-of s)) traces ∙ origin-found)
+      rw (eq-eqb (length key) 32 (k .long), block-laid (suspended-of s) (l .fine), read-block (suspended-of s) (l .fine))
+      (ap (by-origin key (suspended-of s)) traced ∙ origin-found)
 
   -- resume right after an accepted suspend, with the bytes that it wrote
   pub resumes : (out : List ℕ) → suspend-call s out .number ≡ 0

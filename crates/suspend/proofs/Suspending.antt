@@ -4,11 +4,11 @@ use mathlib.Core.List.{List, _++_}
 use Prim.Native.Nat.{ℕ, _≤_, _<_}
 use borrow.Author.Tests.{lt-ltb, le-ltb}
 use lib.ListN.{length, drop}
-use Rattle.session.specs.Sealing.{Sealing}
+use Rattle.session.specs.Session.{Session}
 use Rattle.layout.specs.Block.{block-of}
-use Rattle.suspend.specs.Calls.{kept-of, suspend-number, suspend-call}
+use Rattle.suspend.specs.Calls.{suspended-of, suspend-number, suspend-call}
 
-module _ (s : Sealing) (out : List ℕ) where
+module _ (s : Session) (out : List ℕ) where
   pub finished-number : 2 ≤ s .phase → suspend-number s out ≡ 7
   unfolding suspend-number
   finished-number h = rw (le-ltb (s .phase) 2 h)
@@ -30,6 +30,6 @@ module _ (s : Sealing) (out : List ℕ) where
   unfolding suspend-call
   short-out h k = rw (short-number h k)
 
-  pub accepted-out : s .phase < 2 → 512 ≤ length out → block-of (kept-of s) ++ drop 512 out ≡ suspend-call s out .out
+  pub accepted-out : s .phase < 2 → 512 ≤ length out → block-of (suspended-of s) ++ drop 512 out ≡ suspend-call s out .out
   unfolding suspend-call
   accepted-out h k = rw (accepted-number h k)

@@ -1,37 +1,37 @@
 -- Suspending a session and resuming it (document 01, "Sessions and parking": park and take up): for each its number, 0 or that of the refusal in
 -- the call's order, what stands in the lent output afterwards, and the session handed back. A refused call changes neither.
-use Prim.Native.Nat.{ℕ}
-use mathlib.Core.Bool.{not}
+use Prim.Native.Nat.{ℕ, _+_}
+use mathlib.Core.Path.{_≡_}
+use mathlib.Core.Logic.{_↔_}
+use mathlib.Core.Bool.{true, false, not}
 use mathlib.Core.List.{List, _++_}
 use lib.Dec.{eqb, ltb}
 use lib.ListN.{length, drop}
 use Rattle.scope.specs.Refusals.{pick, refuse, granted, key-length, short-output, no-origin, out-of-phase, bad-block}
 use Rattle.words.specs.Bytes.{zeros}
-use Rattle.cipher.specs.Step.{z}
-use Rattle.cipher.specs.Run.{forward, backward, made, moves}
-use Rattle.start.specs.declared.Mode.the-variants.{Plain, Sealed}
-use Rattle.start.specs.Start.{start}
-use Rattle.start.specs.Trace.{Answer, Answer.origin, Answer.refused, trace}
-use Rattle.session.specs.Sealing.{Sealing, drawn-at}
-use Rattle.session.specs.Calls.{Given, nobody}
-use Rattle.layout.specs.Block.{Kept, block-of, read}
+use Rattle.start.specs.Start.{Mode.plain, Mode.sealed, keystream}
+use Rattle.start.specs.Leads.{LeadsTo, Traced, Traced.origin, Traced.refused}
+use Rattle.start.specs.Trace.{trace}
+use Rattle.session.specs.Session.{Session, ceil16, drawn-at}
+use Rattle.session.specs.Calls.{Given, no-session}
+use Rattle.layout.specs.Block.{Suspended, block-of, read}
 use Rattle.layout.specs.Rules.{well-laid}
 
--- what is kept of a session
-abbrev pub kept-of : Sealing → Kept
-kept-of s = record { phase = s .phase; ad = s .ad; text = s .text; registers = s .registers; sum = s .sum }
+-- what a block says of a session
+abbrev pub suspended-of : Session → Suspended
+suspended-of s = record { phase = s .phase; ad = s .ad; text = s .text; registers = s .registers; sum = s .sum }
 
 -- ---- suspend: 7, 4
 
-unfoldable pub suspend-number : Sealing → (out : List ℕ) → ℕ
+unfoldable pub suspend-number : Session → (out : List ℕ) → ℕ
 suspend-number s out = refuse (not (ltb (s .phase) 2)) out-of-phase (refuse (ltb (length out) 512) short-output 0)
 
 -- the block, at the front of the output; the session stays as it is
-unfoldable pub suspend-call : Sealing → (out : List ℕ) → Given
+unfoldable pub suspend-call : Session → (out : List ℕ) → Given
 suspend-call s out =
     record {
       number = suspend-number s out;
-      out = granted (suspend-number s out) (block-of (kept-of s) ++ drop 512 out) out;
+      out = granted (suspend-number s out) (block-of (suspended-of s) ++ drop 512 out) out;
       session = s;
     }
 
@@ -40,35 +40,53 @@ suspend-call s out =
 pub record Resumed : Type 0 where
   pub number : ℕ
   pub iv : List ℕ
-  pub session : Sealing
+  pub session : Session
 
 -- a refused resume gives zeros in the IV's place, and a session that takes no call
-abbrev pub turned-away : ℕ → Resumed
-turned-away n = record { number = n; iv = zeros; session = nobody }
+abbrev pub not-resumed : ℕ → Resumed
+not-resumed n = record { number = n; iv = zeros; session = no-session }
 
--- the session of what was kept, under the IV that its registers were traced to: "H, the end pad and the current keystream block come from
--- walking back. The hash so far and bytes 144-159 are taken as stored"
-unfoldable pub revived : (key iv : List ℕ) → Kept → Sealing
+-- the session of what a block says, under the IV that leads to its registers: "H, the end pad and the current keystream block come from walking
+-- back. The hash so far and bytes 144-159 are taken as stored". The current block is the one drawn last, by its number in the keystream
+unfoldable pub revived : (key iv : List ℕ) → Suspended → Session
 revived key iv k =
     record {
       phase = k .phase;
       ad = k .ad;
       text = k .text;
       registers = k .registers;
-      h = z (start key iv Sealed);
-      pad = z (moves forward 1 (start key iv Sealed));
-      current = made backward (k .registers);
+      h = keystream key iv 0;
+      pad = keystream key iv 1;
+      current = keystream key iv (1 + ceil16 (k .text));
       sum = k .sum;
     }
 
 -- 6: no IV leads to the registers in sealed mode
-unfoldable pub by-origin : (key : List ℕ) → Kept → Answer → Resumed
-by-origin key k (origin iv Plain) = turned-away no-origin
-by-origin key k (origin iv Sealed) = record { number = 0; iv = iv; session = revived key iv k }
-by-origin key k (refused n) = turned-away no-origin
+unfoldable pub by-origin : (key : List ℕ) → Suspended → Traced → Resumed
+by-origin key k (origin iv plain) = not-resumed no-origin
+by-origin key k (origin iv sealed) = record { number = 0; iv = iv; session = revived key iv k }
+by-origin key k (refused n) = not-resumed no-origin
 
 unfoldable pub resume-call : (key block : List ℕ) → Resumed
 resume-call key b =
     pick (not (eqb (length key) 32))
-    (turned-away key-length)
-    (pick (not (well-laid b)) (turned-away bad-block) (by-origin key (read b) (trace (read b .registers) key (drawn-at (read b .text)))))
+    (not-resumed key-length)
+    (pick (not (well-laid b)) (not-resumed bad-block) (by-origin key (read b) (trace (read b .registers) key (drawn-at (read b .text)))))
+
+-- What resume answers, in terms of "leads to" alone: how the walk back goes need not be believed by reading.
+
+-- a key of 32 bytes, and a block that obeys the layout rules: neither 1 nor 8
+abbrev pub Resumable : (key block : List ℕ) → Type 0
+Resumable key b = (length key ≡ 32) × (well-laid b ≡ true)
+
+-- an IV leads to the block's registers in sealed mode, at the blocks that its text has drawn
+abbrev pub LeadsToBlock : (key block iv : List ℕ) → Type 0
+LeadsToBlock key b iv = LeadsTo key (drawn-at (read b .text)) iv sealed (read b .registers)
+
+-- 1, 8, 6: 0 with an IV exactly if it leads there, 6 exactly if none does, "a plain-mode state" included
+pub record Revives (key block : List ℕ) (r : Resumed) : Type 0 where
+  pub wrong-key : (r .number ≡ key-length) ↔ ¬ (length key ≡ 32)
+  pub bad : (r .number ≡ bad-block) ↔ (length key ≡ 32) × (well-laid block ≡ false)
+  pub found : (iv : List ℕ) → ((r .number ≡ 0) × (r .iv ≡ iv)) ↔ Resumable key block × LeadsToBlock key block iv
+  pub none : (r .number ≡ no-origin) ↔ Resumable key block × ((iv : List ℕ) → ¬ LeadsToBlock key block iv)
+  pub session : r .number ≡ 0 → r .session ≡ revived key (r .iv) (read block)

@@ -5,13 +5,16 @@ ghost use Prim.Native.Nat.{_≤_};
 ghost use lib.ListN.{length, drop};
 ghost use Rattle.scope.specs.Limits.{most-text};
 ghost use Rattle.words.specs.Bytes.{little};
-ghost use Rattle.session.specs.Sealing.{drawn-at};
-ghost use Rattle.session.specs.Machine.{sealingOf, Says};
-ghost use Rattle.kept.specs.Machine.{keptOf};
+ghost use Rattle.cipher.specs.Machine.{registersOf};
+ghost use Rattle.start.specs.Start.{Mode.sealed};
+ghost use Rattle.start.specs.Leads.{LeadsTo};
+ghost use Rattle.session.specs.Session.{drawn-at};
+ghost use Rattle.session.specs.Machine.{sessionOf, Says};
+ghost use Rattle.suspended.specs.Machine.{suspendedOf};
 ghost use Rattle.suspend.specs.Calls;
-ghost use Rattle.suspend.specs.Calls.{suspend-call, turned-away, resume-call};
-ghost use Rattle.suspend.specs.Machine.{Resumes};
-use kept::Fields;
+ghost use Rattle.suspend.specs.Calls.{suspend-call, not-resumed, resume-call, Revives};
+ghost use Rattle.suspend.specs.Machine.{resumedOf};
+use suspended::Suspended;
 use session::Said;
 use session::Session;
 use start::Mode;
@@ -32,8 +35,8 @@ fn copy(block: [u8; 512], out: &mut [u8])
 // Document 01's park: writes the session's block and hands the session back as it was. Refused: 7 after finish, 4 where the output has less
 // than 512 bytes.
 pub fn suspend(s: Session, out: &mut [u8]) -> Said
-    ensures { λ r. ⌜ Says (suspend-call (sealingOf s) (now (out .entry))) r ⌝ }
-    ensures { λ _. ⌜ now (out .exit) ≡ suspend-call (sealingOf s) (now (out .entry)) .out ⌝ }
+    ensures { λ r. ⌜ Says (suspend-call (sessionOf s) (now (out .entry))) r ⌝ }
+    ensures { λ _. ⌜ now (out .exit) ≡ suspend-call (sessionOf s) (now (out .entry)) .out ⌝ }
 {
     if s.phase >= 2 {
         return Said {
@@ -49,7 +52,7 @@ pub fn suspend(s: Session, out: &mut [u8]) -> Said
     }
     let state = s.state;
     let held = s.held;
-    let block = kept::block_of(Fields {
+    let block = suspended::block_of(Suspended {
         phase: s.phase,
         ad: s.ad,
         text: s.text,
@@ -71,9 +74,9 @@ pub struct Resumed {
 }
 
 fn refused(n: u64) -> Resumed
-    ensures { λ r. ⌜ Resumes (turned-away n) r ⌝ }
+    ensures { λ r. ⌜ resumedOf r ≡ not-resumed n ⌝ }
 {
-    let session = session::nobody();
+    let session = session::no_session();
     Resumed {
         answer: n,
         iv: [0; 16],
@@ -91,10 +94,11 @@ fn iv_bytes(lo: u64, hi: u64) -> [u8; 16]
     r
 }
 
-// The session of what was kept: H and the end pad are those of a session begun under the IV, the current block that of the step before.
-fn revived(key: &[u8], iv: [u8; 16], k: Fields) -> Session
-    requires { ⌜ length (now key) ≡ 32 ⌝ }
-    ensures { λ r. ⌜ sealingOf r ≡ Calls.revived (now (key .entry)) iv (keptOf k) ⌝ }
+// The session of what a block says, under the IV that leads to its state: H and the end pad are those of a session begun under it, and the current
+// block is that of the step before.
+fn revived(key: &[u8], iv: [u8; 16], k: Suspended) -> Session
+    requires { ⌜ (length (now key) ≡ 32) × LeadsTo (now key) (drawn-at (k .text)) iv sealed (registersOf (k .state)) ⌝ }
+    ensures { λ r. ⌜ sessionOf r ≡ Calls.revived (now (key .entry)) iv (suspendedOf k) ⌝ }
 {
     let state = k.state;
     let held = k.held;
@@ -128,7 +132,8 @@ fn drawn(text: u64) -> u64
 // Document 01's take up: the session that a block was written for, and its IV. Refused: 1 for the key's length, 8 for a block that breaks a
 // layout rule, 6 where no IV leads to its state in sealed mode.
 pub fn resume(key: &[u8], block: &[u8]) -> Resumed
-    ensures { λ r. ⌜ Resumes (resume-call (now (key .entry)) (now (block .entry))) r ⌝ }
+    ensures leads { λ r. ⌜ Revives (now (key .entry)) (now (block .entry)) (resumedOf r) ⌝ }
+    ensures walk { λ r. ⌜ resumedOf r ≡ resume-call (now (key .entry)) (now (block .entry)) ⌝ }
 {
     if key.len() != 32 {
         return refused(scope::KEY_LENGTH);
@@ -136,7 +141,7 @@ pub fn resume(key: &[u8], block: &[u8]) -> Resumed
     if !layout::well_laid(block) {
         return refused(scope::BAD_BLOCK);
     }
-    let k = kept::read(block);
+    let k = suspended::read(block);
     let state = k.state;
     let Traced::Found(o) = start::trace(state, key, drawn(k.text)) else {
         return refused(scope::NO_ORIGIN);

@@ -12,9 +12,9 @@ use Rattle.scope.specs.Refusals.{pick, granted}
 use Rattle.words.specs.Bytes.{little}
 use Rattle.words.proofs.Bytes.{little-long}
 use Rattle.words.proofs.Writing.{put-next, put-front}
-use Rattle.session.specs.Sealing.{Sealing}
-use Rattle.tulvekas.specs.Order.{next, room, written}
-use Rattle.tulvekas.specs.SessionBytes.{session-bytes, sealing-at, Leaves}
+use Rattle.session.specs.Session.{Session}
+use Rattle.tulvekas.specs.Order.{next, room, buffer-after}
+use Rattle.tulvekas.specs.SessionBytes.{session-bytes, session-in, Leaves}
 use Rattle.tulvekas.specs.Sessions.{whole}
 
 pub never : (k : ℕ) → ¬ (suc k ≡ 0)
@@ -26,21 +26,21 @@ module _ {r n : ℕ} (e : r ≡ n) where
   pub refused : {A : Type 0} (a b : A) → ¬ (r ≡ 0) → b ≡ granted n a b
   refused a b h = rw (ne-eqb n 0 (λ z. h (e ∙ z)))
 
-  pub unwritten : (k : ℕ) (v out : List ℕ) → ¬ (r ≡ 0) → out ≡ written n k v out
+  pub unwritten : (k : ℕ) (v out : List ℕ) → ¬ (r ≡ 0) → out ≡ buffer-after n k v out
   unwritten k v out h = refused (v ++ drop k out) out h
 
-  pub leaves-all : (g : Sealing) (s : List ℕ) → ¬ (r ≡ 0) → Leaves n g s s
-  leaves-all g s h = record { bytes = unwritten 216 (session-bytes g) s h; lists = refused g (sealing-at s) h }
+  pub leaves-all : (g : Session) (s : List ℕ) → ¬ (r ≡ 0) → Leaves n g s s
+  leaves-all g s h = record { bytes = unwritten 216 (session-bytes g) s h; lists = refused g (session-in s) h }
 
 module _ {n : ℕ} (e : 0 ≡ n) where
   pub accepted : {A : Type 0} (a b : A) → a ≡ granted n a b
   accepted a b = rw (← e)
 
-  pub leaves-stored : (g g′ : Sealing) (s after : List ℕ) → g ≡ g′ → Leaves 0 g s after → Leaves n g′ s after
+  pub leaves-stored : (g g′ : Session) (s after : List ℕ) → g ≡ g′ → Leaves 0 g s after → Leaves n g′ s after
   leaves-stored g g′ s after f l =
       record {
-        bytes = l .bytes ∙ ap (λ (u : Sealing). session-bytes u ++ drop 216 s) f ∙ accepted (session-bytes g′ ++ drop 216 s) s;
-        lists = l .lists ∙ f ∙ accepted g′ (sealing-at s);
+        bytes = l .bytes ∙ ap (λ (u : Session). session-bytes u ++ drop 216 s) f ∙ accepted (session-bytes g′ ++ drop 216 s) s;
+        lists = l .lists ∙ f ∙ accepted g′ (session-in s);
       }
 
 -- what a refused call left is left by one that says so again

@@ -5,14 +5,14 @@ use Prim.Native.Nat.{ℕ, _≤_, _<_}
 use lib.ListN.{length, drop}
 use Rattle.scope.specs.Refusals.{granted}
 use Rattle.start.specs.Start.{start-number}
-use Rattle.session.specs.Sealing.{Sealing}
+use Rattle.session.specs.Session.{Session}
 use Rattle.session.specs.Calls.{Given, begin-call, closed, text-out, text-number, text-call, finish-call}
 use Rattle.session.proofs.Numbers.{finish-late, finish-due}
 use Rattle.layout.specs.Block.{block-of}
-use Rattle.suspend.specs.Calls.{kept-of, suspend-number, suspend-call, resume-call}
+use Rattle.suspend.specs.Calls.{suspended-of, suspend-number, suspend-call, resume-call}
 use Rattle.tulvekas.specs.Order.{next, room}
-use Rattle.tulvekas.specs.SessionBytes.{sealing-at}
-use Rattle.tulvekas.specs.Sessions.{whole, begin-answer, finish-answer, take-up-answer}
+use Rattle.tulvekas.specs.SessionBytes.{session-in}
+use Rattle.tulvekas.specs.Sessions.{whole, begin-answer, finish-answer, resume-answer}
 use Rattle.tulvekas.proofs.Answering.{granted-again, below-refuses, below-accepts, short, fits, sound}
 
 module _ (key iv s : List ℕ) {n : ℕ} (e : n ≡ start-number key iv) where
@@ -30,34 +30,34 @@ module _ (key iv s : List ℕ) {n : ℕ} (e : n ≡ start-number key iv) where
     begin-right h = fits 216 s 0 h ∙ below-accepts (start-number key iv) (room 216 s 0) (sym z ∙ e)
 
 -- a refused call leaves the output: said once, or twice
-pub text-again : (v : Sealing) (p out : List ℕ) → text-call v p out .out ≡ granted (text-call v p out .number) (text-call v p out .out) out
+pub text-again : (v : Session) (p out : List ℕ) → text-call v p out .out ≡ granted (text-call v p out .number) (text-call v p out .out) out
 unfolding text-call
 text-again v p out = granted-again (text-number v p out) (text-out (closed v) p ++ drop (length p) out) out
 
-pub suspend-again : (v : Sealing) (b : List ℕ) → suspend-call v b .out ≡ granted (suspend-call v b .number) (suspend-call v b .out) b
+pub suspend-again : (v : Session) (b : List ℕ) → suspend-call v b .out ≡ granted (suspend-call v b .number) (suspend-call v b .out) b
 unfolding suspend-call
-suspend-again v b = granted-again (suspend-number v b) (block-of (kept-of v) ++ drop 512 b) b
+suspend-again v b = granted-again (suspend-number v b) (block-of (suspended-of v) ++ drop 512 b) b
 
 -- ---- calls that read a session: u is the one that its 216 bytes list
 
-module _ (s : List ℕ) (long : length s ≡ 216) {u : Sealing} (e : u ≡ sealing-at s) where
+module _ (s : List ℕ) (long : length s ≡ 216) {u : Session} (e : u ≡ session-in s) where
   -- the call below
-  module _ (f : Sealing → Given) where
-    pub below-number : f u .number ≡ whole s (f (sealing-at s) .number)
-    below-number = ap (λ (v : Sealing). f v .number) e ∙ sound s (f (sealing-at s) .number) long
+  module _ (f : Session → Given) where
+    pub below-number : f u .number ≡ whole s (f (session-in s) .number)
+    below-number = ap (λ (v : Session). f v .number) e ∙ sound s (f (session-in s) .number) long
 
-    pub below-session : f u .session ≡ f (sealing-at s) .session
-    below-session = ap (λ (v : Sealing). f v .session) e
+    pub below-session : f u .session ≡ f (session-in s) .session
+    below-session = ap (λ (v : Session). f v .session) e
 
-    pub below-out : (out : List ℕ) → f (sealing-at s) .out ≡ granted (f (sealing-at s) .number) (f (sealing-at s) .out) out
-        → f u .out ≡ granted (whole s (f (sealing-at s) .number)) (f (sealing-at s) .out) out
+    pub below-out : (out : List ℕ) → f (session-in s) .out ≡ granted (f (session-in s) .number) (f (session-in s) .out) out
+        → f u .out ≡ granted (whole s (f (session-in s) .number)) (f (session-in s) .out) out
     below-out out h =
-        ap (λ (v : Sealing). f v .out) e ∙ h ∙ ap (λ (n : ℕ). granted n (f (sealing-at s) .out) out) (sound s (f (sealing-at s) .number) long)
+        ap (λ (v : Session). f v .out) e ∙ h ∙ ap (λ (n : ℕ). granted n (f (session-in s) .out) out) (sound s (f (session-in s) .number) long)
 
   finish-below : (tag : List ℕ) → next (finish-call u .number) (room 16 tag 0) ≡ finish-answer s tag
   unfolding finish-answer
   finish-below tag =
-      ap (λ (v : Sealing). next (finish-call v .number) (room 16 tag 0)) e ∙ sound s (next (finish-call (sealing-at s) .number) (room 16 tag 0)) long
+      ap (λ (v : Session). next (finish-call v .number) (room 16 tag 0)) e ∙ sound s (next (finish-call (session-in s) .number) (room 16 tag 0)) long
 
   pub finish-ended : (tag : List ℕ) → 2 ≤ u .phase → 7 ≡ finish-answer s tag
   unfolding finish-call
@@ -77,20 +77,20 @@ module _ (s : List ℕ) (long : length s ≡ 216) {u : Sealing} (e : u ≡ seali
 -- ---- take up
 
 module _ (key b s iv : List ℕ) {n : ℕ} (e : n ≡ resume-call key b .number) where
-  pub take-up-refused : ¬ (n ≡ 0) → n ≡ take-up-answer key b s iv
-  unfolding take-up-answer
-  take-up-refused h = e ∙ below-refuses (resume-call key b .number) (room 216 s (room 16 iv 0)) (λ z. h (e ∙ z))
+  pub resume-refused : ¬ (n ≡ 0) → n ≡ resume-answer key b s iv
+  unfolding resume-answer
+  resume-refused h = e ∙ below-refuses (resume-call key b .number) (room 216 s (room 16 iv 0)) (λ z. h (e ∙ z))
 
   module _ (z : n ≡ 0) where
-    take-up-room : room 216 s (room 16 iv 0) ≡ take-up-answer key b s iv
-    unfolding take-up-answer
-    take-up-room = below-accepts (resume-call key b .number) (room 216 s (room 16 iv 0)) (sym z ∙ e)
+    resume-room : room 216 s (room 16 iv 0) ≡ resume-answer key b s iv
+    unfolding resume-answer
+    resume-room = below-accepts (resume-call key b .number) (room 216 s (room 16 iv 0)) (sym z ∙ e)
 
-    pub take-up-short : length s < 216 → 4 ≡ take-up-answer key b s iv
-    take-up-short h = short 216 s (room 16 iv 0) h ∙ take-up-room
+    pub resume-short : length s < 216 → 4 ≡ resume-answer key b s iv
+    resume-short h = short 216 s (room 16 iv 0) h ∙ resume-room
 
-    pub take-up-short-iv : 216 ≤ length s → length iv < 16 → 4 ≡ take-up-answer key b s iv
-    take-up-short-iv h k = short 16 iv 0 k ∙ fits 216 s (room 16 iv 0) h ∙ take-up-room
+    pub resume-short-iv : 216 ≤ length s → length iv < 16 → 4 ≡ resume-answer key b s iv
+    resume-short-iv h k = short 16 iv 0 k ∙ fits 216 s (room 16 iv 0) h ∙ resume-room
 
-    pub take-up-right : 216 ≤ length s → 16 ≤ length iv → 0 ≡ take-up-answer key b s iv
-    take-up-right h k = fits 16 iv 0 k ∙ fits 216 s (room 16 iv 0) h ∙ take-up-room
+    pub resume-right : 216 ≤ length s → 16 ≤ length iv → 0 ≡ resume-answer key b s iv
+    resume-right h k = fits 16 iv 0 k ∙ fits 216 s (room 16 iv 0) h ∙ resume-room

@@ -13,8 +13,8 @@ use Rattle.words.proofs.Parts.{At, down, here}
 use Rattle.words.proofs.Writing.{put-next, put-front}
 use Rattle.layout.specs.Block.{registers-bytes, registers-at}
 use Rattle.layout.proofs.RegisterBytes.{good-row, registers-back}
-use Rattle.session.specs.Sealing.{Sealing}
-use Rattle.tulvekas.specs.SessionBytes.{session-bytes, sealing-at, Sized, Leaves}
+use Rattle.session.specs.Session.{Session}
+use Rattle.tulvekas.specs.SessionBytes.{session-bytes, session-in, Sized, Leaves}
 
 regroup : (f0 f1 f2 f3 f4 f5 f6 f7 f8 r : List ℕ)
     → (f0 ++ f1 ++ f2 ++ f3 ++ f4 ++ f5 ++ f6 ++ f7 ++ f8) ++ r ≡ joined (f0 ∷ f1 ∷ f2 ∷ f3 ∷ f4 ∷ f5 ∷ f6 ∷ f7 ∷ f8 ∷ r ∷ [])
@@ -27,7 +27,7 @@ first-byte : (n : ℕ) (r : List ℕ) → n < 256 → getD (little 8 n ++ r) 0 0
 unfolding little
 first-byte n r h = mod-eq-of-lt h
 
-module _ (s : Sealing) (g : Sized s) where
+module _ (s : Session) (g : Sized s) where
   head-row : Row 136 256 (little 8 (s .phase) ++ little 8 (s .ad) ++ little 8 (s .text) ++ registers-bytes (s .registers))
   head-row =
       let r16 = row-append 256 8 8 (little-row 8 (s .phase)) (little-row 8 (s .ad)) in
@@ -57,8 +57,8 @@ module _ (s : Sealing) (g : Sized s) where
               (s .sum .hash) (s .sum .pending) r;
         }
 
-    pub session-back : sealing-at (session-bytes s ++ r) ≡ s
-    unfolding sealing-at
+    pub session-back : session-in (session-bytes s ++ r) ≡ s
+    unfolding session-in
     session-back =
         let d8 = down at0 8 (little-long 8 (s .phase)) in
         let d16 = down d8 8 (little-long 8 (s .ad)) in
@@ -90,8 +90,8 @@ module _ (s : Sealing) (g : Sized s) where
         }
 
   -- the bytes of a session list it, and no other does
-  pub session-whole : sealing-at (session-bytes s) ≡ s
-  session-whole = ap sealing-at (sym (append-nil (session-bytes s))) ∙ session-back []
+  pub session-whole : session-in (session-bytes s) ≡ s
+  session-whole = ap session-in (sym (append-nil (session-bytes s))) ∙ session-back []
 
   -- ---- how code writes them, to the front of a buffer
 
@@ -121,7 +121,7 @@ module _ (s : Sealing) (g : Sized s) where
         → o6 ≡ sets o5 184 (s .sum .hash ++ s .sum .pending) → Leaves 0 s out o6
     session-stored e1 e2 e3 e4 e5 e6 =
         let e = put-session e1 e2 e3 e4 e5 e6 in
-        record { bytes = e; lists = ap sealing-at e ∙ session-back (drop 216 out) }
+        record { bytes = e; lists = ap session-in e ∙ session-back (drop 216 out) }
 
 -- ---- and its blocks, one behind the other
 

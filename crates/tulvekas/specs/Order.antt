@@ -15,5 +15,5 @@ abbrev pub room : ℕ → (out : List ℕ) → ℕ → ℕ
 room k out later = refuse (ltb (length out) k) short-output later
 
 -- what a call that answers n leaves in a buffer: k bytes v at its front, those behind as they were; a refusal changes none
-abbrev pub written : ℕ → (k : ℕ) → (v out : List ℕ) → List ℕ
-written n k v out = granted n (v ++ drop k out) out
+abbrev pub buffer-after : ℕ → (k : ℕ) → (v out : List ℕ) → List ℕ
+buffer-after n k v out = granted n (v ++ drop k out) out

@@ -4,7 +4,7 @@ use Prim.Native.Nat.{ℕ}
 use mathlib.Core.List.{List}
 use Rattle.scope.specs.Refusals.{granted}
 use Rattle.page.specs.Calls.{seal-number, seal-out, seal-tag}
-use Rattle.tulvekas.specs.Order.{next, room, written}
+use Rattle.tulvekas.specs.Order.{next, room, buffer-after}
 
 -- 1, 2, 3, 4 for either buffer
 unfoldable pub seal-answer : (key iv ad text out tag : List ℕ) → ℕ
@@ -14,4 +14,4 @@ abbrev pub seal-writes : (key iv ad text out tag : List ℕ) → List ℕ
 seal-writes key iv d t out tag = granted (seal-answer key iv d t out tag) (seal-out key iv d t out) out
 
 abbrev pub seal-writes-tag : (key iv ad text out tag : List ℕ) → List ℕ
-seal-writes-tag key iv d t out tag = written (seal-answer key iv d t out tag) 16 (seal-tag key iv d t out) tag
+seal-writes-tag key iv d t out tag = buffer-after (seal-answer key iv d t out tag) 16 (seal-tag key iv d t out) tag

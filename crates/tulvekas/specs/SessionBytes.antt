@@ -1,21 +1,21 @@
 -- A session in 216 bytes, as C keeps it between calls: document 01 says what a session keeps ("Tag arithmetic" and "Sessions and parking") and
--- leaves its form open. Numbers are low byte first; the registers are listed as in a parked block; a block is 16 bytes. H, the end pad and the
--- keystream block in use are kept too, so that no call walks back for them. The bytes say nothing but what the session is: one that was parked
--- and taken up has the bytes that it had before.
+-- leaves its form open. Numbers are low byte first; the registers are listed as in a suspended block; a block is 16 bytes. H, the end pad and the
+-- keystream block in use are kept too, so that no call walks back for them. The bytes say nothing but what the session is: one that was suspended
+-- and resumed has the bytes that it had before.
 use Prim.Native.Nat.{ℕ, _^_, _<_}
 use mathlib.Core.Path.{_≡_}
 use mathlib.Core.List.{List, _++_}
 use lib.ListN.{getD}
 use Rattle.scope.specs.Refusals.{granted}
 use Rattle.words.specs.Bytes.{little, number, IsBlock, part}
-use Rattle.cipher.specs.Registers.{Good}
+use Rattle.cipher.specs.Registers.{IsRegisters}
 use Rattle.layout.specs.Block.{registers-bytes, registers-at}
-use Rattle.session.specs.Sealing.{Sealing}
-use Rattle.tulvekas.specs.Order.{written}
+use Rattle.session.specs.Session.{Session}
+use Rattle.tulvekas.specs.Order.{buffer-after}
 
 -- 0-7 phase; 8-15 data length; 16-23 text length; 24-135 the registers; 136-151 H; 152-167 end pad; 168-183 keystream block drawn last;
 -- 184-199 hash so far; 200-215 bytes not yet hashed
-unfoldable pub session-bytes : Sealing → List ℕ
+unfoldable pub session-bytes : Session → List ℕ
 session-bytes s =
     little 8 (s .phase)
     ++ little 8 (s .ad)
@@ -28,8 +28,8 @@ session-bytes s =
     ++ s .sum .pending
 
 -- the session that bytes list. A phase is one byte, and bytes 1 to 7 are not read
-unfoldable pub sealing-at : List ℕ → Sealing
-sealing-at b =
+unfoldable pub session-in : List ℕ → Session
+session-in b =
     record {
       phase = getD b 0 0;
       ad = number (part 8 8 b);
@@ -42,11 +42,11 @@ sealing-at b =
     }
 
 -- a session whose parts have their sizes, as every session of the code has
-pub record Sized (s : Sealing) : Type 0 where
+pub record Sized (s : Session) : Type 0 where
   pub phase-byte : s .phase < 256
   pub ad-fits : s .ad < 256 ^ 8
   pub text-fits : s .text < 256 ^ 8
-  pub registers-good : Good (s .registers)
+  pub registers-good : IsRegisters (s .registers)
   pub h-block : IsBlock (s .h)
   pub pad-block : IsBlock (s .pad)
   pub current-block : IsBlock (s .current)
@@ -54,6 +54,6 @@ pub record Sized (s : Sealing) : Type 0 where
   pub pending-block : IsBlock (s .sum .pending)
 
 -- what a call that answers n and gives the session g leaves in a lent session: its bytes, and the session that they then list
-pub record Leaves (n : ℕ) (g : Sealing) (session after : List ℕ) : Type 0 where
-  pub bytes : after ≡ written n 216 (session-bytes g) session
-  pub lists : sealing-at after ≡ granted n g (sealing-at session)
+pub record Leaves (n : ℕ) (g : Session) (session after : List ℕ) : Type 0 where
+  pub bytes : after ≡ buffer-after n 216 (session-bytes g) session
+  pub lists : session-in after ≡ granted n g (session-in session)

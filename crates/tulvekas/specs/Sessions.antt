@@ -9,8 +9,8 @@ use lib.ListN.{length}
 use Rattle.scope.specs.Refusals.{refuse, granted, bad-block}
 use Rattle.session.specs.Calls.{begin-call, data-call, text-call, finish-call}
 use Rattle.suspend.specs.Calls.{suspend-call, resume-call}
-use Rattle.tulvekas.specs.Order.{next, room, written}
-use Rattle.tulvekas.specs.SessionBytes.{sealing-at, Leaves}
+use Rattle.tulvekas.specs.Order.{next, room, buffer-after}
+use Rattle.tulvekas.specs.SessionBytes.{session-in, Leaves}
 
 -- a session that is read is 216 bytes
 abbrev pub whole : (session : List ℕ) → ℕ → ℕ
@@ -27,48 +27,48 @@ begin-leaves key iv s after = Leaves (begin-answer key iv s) (begin-call key iv 
 -- ---- data: 8, 7, 3
 
 unfoldable pub data-answer : (session piece : List ℕ) → ℕ
-data-answer s p = whole s (data-call (sealing-at s) p .number)
+data-answer s p = whole s (data-call (session-in s) p .number)
 
 abbrev pub data-leaves : (session piece after : List ℕ) → Type 0
-data-leaves s p after = Leaves (data-answer s p) (data-call (sealing-at s) p .session) s after
+data-leaves s p after = Leaves (data-answer s p) (data-call (session-in s) p .session) s after
 
 -- ---- text: 8, 7, 3, 4
 
 unfoldable pub text-answer : (session piece out : List ℕ) → ℕ
-text-answer s p out = whole s (text-call (sealing-at s) p out .number)
+text-answer s p out = whole s (text-call (session-in s) p out .number)
 
 abbrev pub text-leaves : (session piece out after : List ℕ) → Type 0
-text-leaves s p out after = Leaves (text-answer s p out) (text-call (sealing-at s) p out .session) s after
+text-leaves s p out after = Leaves (text-answer s p out) (text-call (session-in s) p out .session) s after
 
 abbrev pub text-writes : (session piece out : List ℕ) → List ℕ
-text-writes s p out = granted (text-answer s p out) (text-call (sealing-at s) p out .out) out
+text-writes s p out = granted (text-answer s p out) (text-call (session-in s) p out .out) out
 
 -- ---- finish: 8, 7, 4
 
 unfoldable pub finish-answer : (session tag : List ℕ) → ℕ
-finish-answer s tag = whole s (next (finish-call (sealing-at s) .number) (room 16 tag 0))
+finish-answer s tag = whole s (next (finish-call (session-in s) .number) (room 16 tag 0))
 
 abbrev pub finish-leaves : (session tag after : List ℕ) → Type 0
-finish-leaves s tag after = Leaves (finish-answer s tag) (finish-call (sealing-at s) .session) s after
+finish-leaves s tag after = Leaves (finish-answer s tag) (finish-call (session-in s) .session) s after
 
 abbrev pub finish-writes : (session tag : List ℕ) → List ℕ
-finish-writes s tag = written (finish-answer s tag) 16 (finish-call (sealing-at s) .out) tag
+finish-writes s tag = buffer-after (finish-answer s tag) 16 (finish-call (session-in s) .out) tag
 
 -- ---- park: 8, 7, 4. The session is only read
 
-unfoldable pub park-answer : (session block : List ℕ) → ℕ
-park-answer s b = whole s (suspend-call (sealing-at s) b .number)
+unfoldable pub suspend-answer : (session block : List ℕ) → ℕ
+suspend-answer s b = whole s (suspend-call (session-in s) b .number)
 
-abbrev pub park-writes : (session block : List ℕ) → List ℕ
-park-writes s b = granted (park-answer s b) (suspend-call (sealing-at s) b .out) b
+abbrev pub suspend-writes : (session block : List ℕ) → List ℕ
+suspend-writes s b = granted (suspend-answer s b) (suspend-call (session-in s) b .out) b
 
 -- ---- take up: 1, 8, 6, 4 for either buffer
 
-unfoldable pub take-up-answer : (key block session iv : List ℕ) → ℕ
-take-up-answer key b s iv = next (resume-call key b .number) (room 216 s (room 16 iv 0))
+unfoldable pub resume-answer : (key block session iv : List ℕ) → ℕ
+resume-answer key b s iv = next (resume-call key b .number) (room 216 s (room 16 iv 0))
 
-abbrev pub take-up-leaves : (key block session iv after : List ℕ) → Type 0
-take-up-leaves key b s iv after = Leaves (take-up-answer key b s iv) (resume-call key b .session) s after
+abbrev pub resume-leaves : (key block session iv after : List ℕ) → Type 0
+resume-leaves key b s iv after = Leaves (resume-answer key b s iv) (resume-call key b .session) s after
 
-abbrev pub take-up-writes : (key block session iv : List ℕ) → List ℕ
-take-up-writes key b s iv = written (take-up-answer key b s iv) 16 (resume-call key b .iv) iv
+abbrev pub resume-writes : (key block session iv : List ℕ) → List ℕ
+resume-writes key b s iv = buffer-after (resume-answer key b s iv) 16 (resume-call key b .iv) iv

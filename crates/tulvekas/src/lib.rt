@@ -10,15 +10,16 @@ ghost use Rattle.scope.specs.Refusals.{short-output};
 ghost use Rattle.words.specs.Machine.{bytesOf};
 ghost use Rattle.ghash.specs.Machine.{bytesOfElement};
 ghost use Rattle.start.specs.Start.{start-number};
+ghost use Rattle.start.specs.Machine.{modeOf};
 ghost use Rattle.digest.specs.Machine.{sumOf};
-ghost use Rattle.session.specs.Machine.{sealingOf};
+ghost use Rattle.session.specs.Machine.{sessionOf};
 ghost use Rattle.page.specs.Calls.{seal-number, open-number, open-out};
 ghost use Rattle.retention.specs.Keeping.{keeping};
-ghost use Rattle.tulvekas.specs.Order.{next, room, written};
-ghost use Rattle.tulvekas.specs.SessionBytes.{sealing-at, Leaves};
+ghost use Rattle.tulvekas.specs.Order.{next, room, buffer-after};
+ghost use Rattle.tulvekas.specs.SessionBytes.{session-in, Leaves};
 ghost use Rattle.tulvekas.specs.Pages.{seal-answer, seal-writes, seal-writes-tag};
-ghost use Rattle.tulvekas.specs.Sessions.{begin-answer, begin-leaves, data-answer, data-leaves, text-answer, text-leaves, text-writes, finish-answer, finish-leaves, finish-writes, park-answer, park-writes, take-up-answer, take-up-leaves, take-up-writes};
-ghost use Rattle.tulvekas.specs.Cipher.{mode-of, keystream-answer, keystream-writes, traced, mode-byte, trace-answer, trace-iv, trace-sealed};
+ghost use Rattle.tulvekas.specs.Sessions.{begin-answer, begin-leaves, data-answer, data-leaves, text-answer, text-leaves, text-writes, finish-answer, finish-leaves, finish-writes, suspend-answer, suspend-writes, resume-answer, resume-leaves, resume-writes};
+ghost use Rattle.tulvekas.specs.Cipher.{mode-of, keystream-answer, keystream-writes, trace-of-bytes, mode-byte, trace-answer, trace-iv, trace-sealed};
 ghost use Rattle.tulvekas.specs.Keeping.{kept-answer, kept-byte};
 use digest::Held;
 use ghash::Element;
@@ -138,7 +139,7 @@ fn put_held(out: &mut [u8], d: Held)
 // A session's bytes to the front of a buffer.
 fn store_session(out: &mut [u8], s: Session)
     requires { ⌜ 216 ≤ length (now out) ⌝ }
-    ensures { λ _. ⌜ Leaves 0 (sealingOf s) (now (out .entry)) (now (out .exit)) ⌝ }
+    ensures { λ _. ⌜ Leaves 0 (sessionOf s) (now (out .entry)) (now (out .exit)) ⌝ }
 {
     let state = s.state;
     let h = s.h;
@@ -148,7 +149,7 @@ fn store_session(out: &mut [u8], s: Session)
     fields::put(out, 0, 8, s.phase as u64);
     fields::put(out, 8, 8, s.ad);
     fields::put(out, 16, 8, s.text);
-    kept::put_state(out, 24, state);
+    suspended::put_state(out, 24, state);
     put_drawn(out, h, pad, current);
     put_held(out, held);
 }
@@ -156,12 +157,12 @@ fn store_session(out: &mut [u8], s: Session)
 // And the session that bytes list, whatever they are.
 fn load_session(b: &[u8]) -> Session
     requires { ⌜ length (now b) ≡ 216 ⌝ }
-    ensures { λ r. ⌜ sealingOf r ≡ sealing-at (now (b .entry)) ⌝ }
+    ensures { λ r. ⌜ sessionOf r ≡ session-in (now (b .entry)) ⌝ }
 {
     let phase = b[0];
     let ad = fields::get(b, 8, 8);
     let text = fields::get(b, 16, 8);
-    let state = kept::get_state(b, 24);
+    let state = suspended::get_state(b, 24);
     let h = ghash::from_block(words::load(b, 136));
     let pad = words::load(b, 152);
     let current = words::load(b, 168);
@@ -268,13 +269,13 @@ pub extern "C" fn tulvekas_finish(session: &mut [u8], tag: &mut [u8]) -> u64
     scope::ACCEPTED
 }
 
-// ---- document 01's park and take up
+// ---- suspend and resume: document 01's park and take up
 
 // Writes a session's block of 512 bytes; the session is only read. Refused: 8 for a session that is not 216 bytes, 7, 4.
 #[no_mangle]
-pub extern "C" fn tulvekas_park(session: &[u8], block: &mut [u8]) -> u64
-    ensures answer { λ r. ⌜ r ≡ park-answer (now (session .entry)) (now (block .entry)) ⌝ }
-    ensures block { λ _. ⌜ now (block .exit) ≡ park-writes (now (session .entry)) (now (block .entry)) ⌝ }
+pub extern "C" fn tulvekas_suspend(session: &[u8], block: &mut [u8]) -> u64
+    ensures answer { λ r. ⌜ r ≡ suspend-answer (now (session .entry)) (now (block .entry)) ⌝ }
+    ensures block { λ _. ⌜ now (block .exit) ≡ suspend-writes (now (session .entry)) (now (block .entry)) ⌝ }
 {
     if session.len() != 216 {
         return scope::BAD_BLOCK;
@@ -285,15 +286,15 @@ pub extern "C" fn tulvekas_park(session: &[u8], block: &mut [u8]) -> u64
 
 // Gives the session that a block was written for, and its IV. Refused: 1, 8, 6, 4 for either buffer.
 #[no_mangle]
-pub extern "C" fn tulvekas_take_up(
+pub extern "C" fn tulvekas_resume(
     key: &[u8],
     block: &[u8],
     session: &mut [u8],
     iv: &mut [u8],
 ) -> u64
-    ensures answer { λ r. ⌜ r ≡ take-up-answer (now (key .entry)) (now (block .entry)) (now (session .entry)) (now (iv .entry)) ⌝ }
-    ensures session { λ _. ⌜ take-up-leaves (now (key .entry)) (now (block .entry)) (now (session .entry)) (now (iv .entry)) (now (session .exit)) ⌝ }
-    ensures iv { λ _. ⌜ now (iv .exit) ≡ take-up-writes (now (key .entry)) (now (block .entry)) (now (session .entry)) (now (iv .entry)) ⌝ }
+    ensures answer { λ r. ⌜ r ≡ resume-answer (now (key .entry)) (now (block .entry)) (now (session .entry)) (now (iv .entry)) ⌝ }
+    ensures session { λ _. ⌜ resume-leaves (now (key .entry)) (now (block .entry)) (now (session .entry)) (now (iv .entry)) (now (session .exit)) ⌝ }
+    ensures iv { λ _. ⌜ now (iv .exit) ≡ resume-writes (now (key .entry)) (now (block .entry)) (now (session .entry)) (now (iv .entry)) ⌝ }
 {
     let t = suspend::resume(key, block);
     let n = t.answer;
@@ -316,7 +317,7 @@ pub extern "C" fn tulvekas_take_up(
 // ---- the cipher
 
 fn mode_named(sealed: u64) -> Mode
-    ensures { λ r. ⌜ r ≡ mode-of sealed ⌝ }
+    ensures { λ r. ⌜ modeOf r ≡ mode-of sealed ⌝ }
 {
     if sealed == 0 {
         return Mode::Plain;
@@ -346,7 +347,7 @@ pub extern "C" fn tulvekas_keystream(key: &[u8], iv: &[u8], sealed: u64, out: &m
 }
 
 fn mode_number(mode: Mode) -> u8
-    ensures { λ r. ⌜ r ≡ mode-byte mode ⌝ }
+    ensures { λ r. ⌜ r ≡ mode-byte (modeOf mode) ⌝ }
 {
     match mode {
         Mode::Plain => 0,
@@ -354,7 +355,7 @@ fn mode_number(mode: Mode) -> u8
     }
 }
 
-// Document 01's trace: the IV, and one byte that becomes 0 for plain mode and 1 for sealed. The state is bytes 16 to 127 of a parked block.
+// Document 01's trace: the IV, and one byte that becomes 0 for plain mode and 1 for sealed. The state is bytes 16 to 127 of a suspended block.
 // Refused: 1, 8 for a state that is not 112 bytes, 9, 6, 4 for either buffer.
 #[no_mangle]
 pub extern "C" fn tulvekas_trace(
@@ -364,9 +365,9 @@ pub extern "C" fn tulvekas_trace(
     iv: &mut [u8],
     sealed: &mut [u8],
 ) -> u64
-    ensures answer { λ r. ⌜ r ≡ trace-answer (traced (now (state .entry)) (now (key .entry)) count) (now (iv .entry)) (now (sealed .entry)) ⌝ }
-    ensures iv { λ _. ⌜ now (iv .exit) ≡ trace-iv (traced (now (state .entry)) (now (key .entry)) count) (now (iv .entry)) (now (sealed .entry)) ⌝ }
-    ensures sealed { λ _. ⌜ now (sealed .exit) ≡ trace-sealed (traced (now (state .entry)) (now (key .entry)) count) (now (iv .entry)) (now (sealed .entry)) ⌝ }
+    ensures answer { λ r. ⌜ r ≡ trace-answer (trace-of-bytes (now (state .entry)) (now (key .entry)) count) (now (iv .entry)) (now (sealed .entry)) ⌝ }
+    ensures iv { λ _. ⌜ now (iv .exit) ≡ trace-iv (trace-of-bytes (now (state .entry)) (now (key .entry)) count) (now (iv .entry)) (now (sealed .entry)) ⌝ }
+    ensures sealed { λ _. ⌜ now (sealed .exit) ≡ trace-sealed (trace-of-bytes (now (state .entry)) (now (key .entry)) count) (now (iv .entry)) (now (sealed .entry)) ⌝ }
 {
     if key.len() != 32 {
         return scope::KEY_LENGTH;
@@ -374,7 +375,7 @@ pub extern "C" fn tulvekas_trace(
     if state.len() != 112 {
         return scope::BAD_BLOCK;
     }
-    let s = kept::get_state(state, 0);
+    let s = suspended::get_state(state, 0);
     let t = start::trace(s, key, count);
     match t {
         Traced::Refused(n) => n,
@@ -399,7 +400,7 @@ pub extern "C" fn tulvekas_trace(
 // One byte to the front of a buffer.
 fn put_byte(out: &mut [u8], b: u8) -> u64
     ensures answer { λ r. ⌜ r ≡ room 1 (now (out .entry)) 0 ⌝ }
-    ensures out { λ _. ⌜ now (out .exit) ≡ written (room 1 (now (out .entry)) 0) 1 (b ∷ []) (now (out .entry)) ⌝ }
+    ensures out { λ _. ⌜ now (out .exit) ≡ buffer-after (room 1 (now (out .entry)) 0) 1 (b ∷ []) (now (out .entry)) ⌝ }
 {
     if out.len() < 1 {
         return scope::SHORT_OUTPUT;

@@ -7,3 +7,4 @@ pub mod Writing
 pub mod Fronts
 pub mod Sums
 pub mod Blocks
+pub mod Typed

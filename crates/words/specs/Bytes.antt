@@ -43,7 +43,7 @@ same [] (y ∷ t) = false
 same (x ∷ s) [] = false
 same (x ∷ s) (y ∷ t) = eqb x y && same s t
 
--- n numbers below m
+-- n numbers below m. Past the end `getD` gives 0, which is below every m of use here, so that `below` says it of the n numbers and of nothing else
 pub record Row (n m : ℕ) (s : List ℕ) : Type 0 where
   pub long : length s ≡ n
   pub below : (i : ℕ) → getD s i 0 < m

@@ -1,32 +1,23 @@
 -- `cipher::backward` meets its contract: each part of the code is the definition's, and the z that it makes without register A is the z of the
 -- state before.
-use Prim.Native.Nat.{ℕ}
 use mathlib.Core.Path.{ap, ap₂, _∙_}
-use lib.ListN.{getD, take}
-use mir.Syntax.{w16}
-use mir.Val.{Fits}
+use lib.ListN.{take}
 use Rattle.words.specs.Xor.{xors}
 use Rattle.words.specs.Bytes.{littles}
 use Rattle.words.specs.Sums.{_⊞_, _⊟_}
-use Rattle.lfsr.specs.declared.Lfsr.{Lfsr}
-use Rattle.cipher.specs.Registers.{Good}
+use Rattle.lfsr.specs.Clock.{Lfsr}
+use Rattle.cipher.specs.Registers.{IsRegisters}
 use Rattle.cipher.specs.Back.{back, z-before}
 use Rattle.cipher.specs.Run.{move, made}
 use Rattle.cipher.specs.Machine.{registersOf}
 use Rattle.cipher.proofs.Inverse.{z-before-is}
-use Rattle.cipher.proofs.Typed.{good-of}
+use Rattle.cipher.proofs.Typed.{every-state}
 use borrow.Author.Needs.{needs}
 use Rattle.cipher.proofs.backward.Statement.{statement}
 use Rattle.cipher.proofs.backward.Tie as tie
 
-good : (c : tie.Start) → Good (registersOf (c .args .s))
-good c =
-    let fa : (i : ℕ) → Fits w16 (getD (c .args .s .lfsr .a) i 0) = λ i. search needs in
-    let fb : (i : ℕ) → Fits w16 (getD (c .args .s .lfsr .b) i 0) = λ i. search needs in
-    good-of (c .args .s) (record {
-      in-a = record { long = search needs; below = λ i. fa i .fits };
-      in-b = record { long = search needs; below = λ i. fb i .fits };
-    })
+good : (c : tie.Start) → IsRegisters (registersOf (c .args .s))
+good c = every-state (c .args .s) _ (c .good .0)
 
 returns : tie.Need-returns
 unfolding move made back z-before

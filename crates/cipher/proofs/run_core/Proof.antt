@@ -3,13 +3,11 @@ use Prim.Native.Nat.{ℕ, _-_}
 use mathlib.Core.Path.{_≡_, subst}
 use native.Mathlib.Omega.{arith}
 use borrow.Author.Needs.{needs}
-use lib.ListN.{length, getD}
+use lib.ListN.{length}
 use denote.Ref.{now}
-use mir.Syntax.{w16}
-use mir.Val.{Fits}
-use Rattle.cipher.specs.Registers.{Good}
+use Rattle.cipher.specs.Registers.{IsRegisters}
 use Rattle.cipher.specs.Machine.{registersOf}
-use Rattle.cipher.proofs.Typed.{good-of}
+use Rattle.cipher.proofs.Typed.{every-state}
 use Rattle.cipher.proofs.Running.{Made, made-none, made-long, made-more, too-many, no-room, accepted}
 use Rattle.cipher.proofs.run_core.Statement.{statement}
 use Rattle.cipher.proofs.run_core.Tie as tie
@@ -20,14 +18,8 @@ Inv-loop answer out₀ n back sbox inverse t₀ i₀ out t i = Made back (regist
 abbrev μ-loop : tie.MeasureT-loop
 μ-loop answer out₀ n back sbox inverse t₀ i₀ out t i = n - i
 
-good : (c : tie.Start Inv-loop μ-loop) → Good (registersOf (c .args .s))
-good c =
-    let fa : (i : ℕ) → Fits w16 (getD (c .args .s .lfsr .a) i 0) = λ i. search needs in
-    let fb : (i : ℕ) → Fits w16 (getD (c .args .s .lfsr .b) i 0) = λ i. search needs in
-    good-of (c .args .s) (record {
-      in-a = record { long = search needs; below = λ i. fa i .fits };
-      in-b = record { long = search needs; below = λ i. fb i .fits };
-    })
+good : (c : tie.Start Inv-loop μ-loop) → IsRegisters (registersOf (c .args .s))
+good c = every-state (c .args .s) _ (c .good .0)
 
 returns : tie.Need-returns Inv-loop μ-loop
 returns c = let a = c .before .before .args in too-many (a .back) (registersOf (a .s)) (now (a .out)) (a .n) (omega arith)

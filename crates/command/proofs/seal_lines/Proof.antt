@@ -12,8 +12,9 @@ use Rattle.command.specs.Lines.{lines-in}
 use Rattle.command.specs.Output.{answer-for, answer-to}
 use Rattle.command.specs.Machine.{between}
 use Rattle.command.proofs.Reading.{formed-bytes}
-use Rattle.command.proofs.Whole.{Whole, read-as}
-use Rattle.command.proofs.Sealing.{refused-is, sealed-is, same-answer}
+use Rattle.command.specs.Laws.{FourLines}
+use Rattle.command.proofs.Whole.{read-as}
+use Rattle.command.proofs.Session.{refused-is, sealed-is, same-answer}
 use Rattle.command.proofs.seal_lines.Statement.{statement}
 use Rattle.command.proofs.seal_lines.Tie as tie
 
@@ -33,7 +34,7 @@ line3 s = between (s .args .p .iv + 1) (s .args .p .ad) (input s)
 abbrev line4 : tie.Start → List ℕ
 line4 s = between (s .args .p .ad + 1) (s .args .p .text) (input s)
 
-whole : (s : tie.Start) → Whole (input s) (line1 s) (line2 s) (line3 s) (line4 s)
+whole : (s : tie.Start) → FourLines (input s) (line1 s) (line2 s) (line3 s) (line4 s)
 whole s = read-as (input s) (line1 s) (line2 s) (line3 s) (line4 s) (s .pre .0)
 
 line-bytes-requires : tie.Need-line-bytes-requires

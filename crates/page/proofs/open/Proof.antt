@@ -8,8 +8,8 @@ use denote.Ref.{now}
 use Rattle.scope.specs.Limits.{most-data, most-text}
 use Rattle.words.specs.Bytes.{same}
 use Rattle.words.proofs.Tests.{same-eq}
-use Rattle.session.specs.Sealing.{Sealing}
-use Rattle.session.specs.Machine.{sealingOf}
+use Rattle.session.specs.Session.{Session}
+use Rattle.session.specs.Machine.{sessionOf}
 use Rattle.page.specs.Page.{tag-for}
 use Rattle.page.specs.Inner.{tag-over}
 use Rattle.page.proofs.Stages.{Stage.taking-data, Stage.taking-text, phase-at, session-at}
@@ -79,13 +79,13 @@ room c = omega (arith, c .if6 .left)
 
 -- ---- the session at each stage
 
-begun : (c : tie.After-begin) → let a = c .before .before .before .before .before .before .before .before .before .before .before .before .before .args in sealingOf (c .begin .result .session) ≡ session-at (now (a .key)) (now (a .iv)) (taking-data [])
+begun : (c : tie.After-begin) → let a = c .before .before .before .before .before .before .before .before .before .before .before .before .before .args in sessionOf (c .begin .result .session) ≡ session-at (now (a .key)) (now (a .iv)) (taking-data [])
 begun c = let o = c .before in begun-session (now (o .before .before .before .before .before .before .before .before .before .before .before .before .args .key)) (now (o .before .before .before .before .before .before .before .before .before .before .before .before .args .iv)) _ (key-long o) (iv-long o) (c .begin .ensures .session)
 
-told : (c : tie.After-data-with) → let a = c .before .before .before .before .before .before .before .before .before .before .before .before .before .before .before .before .before .before .before .args in sealingOf (c .data-with .result) ≡ session-at (now (a .key)) (now (a .iv)) (taking-data (now (a .ad)))
+told : (c : tie.After-data-with) → let a = c .before .before .before .before .before .before .before .before .before .before .before .before .before .before .before .before .before .before .before .args in sessionOf (c .data-with .result) ≡ session-at (now (a .key)) (now (a .iv)) (taking-data (now (a .ad)))
 told c = let a = c .before .before .before .before .before .before .before .before .before .before .before .before .before .before .before .before .before .before .before .args in told-session (now (a .key)) (now (a .iv)) (now (a .ad)) _ _ (begun (c .before .before .before .before .before .before)) (c .data-with .ensures)
 
-ready : (c : tie.After-close-with) → let a = c .before .before .before .before .before .before .before .before .before .before .before .before .before .before .before .before .before .before .before .before .before .args in sealingOf (c .close-with .result) ≡ session-at (now (a .key)) (now (a .iv)) (taking-text (now (a .ad)) [])
+ready : (c : tie.After-close-with) → let a = c .before .before .before .before .before .before .before .before .before .before .before .before .before .before .before .before .before .before .before .before .before .args in sessionOf (c .close-with .result) ≡ session-at (now (a .key)) (now (a .iv)) (taking-text (now (a .ad)) [])
 ready c = let a = c .before .before .before .before .before .before .before .before .before .before .before .before .before .before .before .before .before .before .before .before .before .args in closed-session (now (a .key)) (now (a .iv)) (now (a .ad)) _ _ (told (c .before .before)) (c .close-with .ensures)
 
 -- one table serves them
@@ -94,8 +94,8 @@ unfolding session-at phase-at
 data-with-requires c κs =
     let b = c .before .before .before .before .before in
     let e = begun b in
-    let n : b .begin .result .session .ad ≡ 0 = ap (λ (s : Sealing). s .ad) e in (
-      ap (λ (s : Sealing). s .phase) e,
+    let n : b .begin .result .session .ad ≡ 0 = ap (λ (s : Session). s .ad) e in (
+      ap (λ (s : Session). s .phase) e,
       omega (arith, ad-fits (b .before)),
       c .before .multiples .ensures,
     )
@@ -121,14 +121,14 @@ compared c =
     let r = c .before .before .before .before in
     let a = r .before .before .before .before .before .before .before .before .before .before .before .before .before .before .before .before .before .before .before .before .before .args in
     let given = front-16 _ (now (a .tag)) (tag-long (r .before .before .before .before .before .before .before .before .before)) (c .before .before .before .load .ensures) in
-    let expected = c .before .tag-over .ensures ∙ ap (λ (s : Sealing). tag-over s (now (a .cipher))) (ready r) ∙ tag-over-at (now (a .key)) (now (a .iv)) (now (a .ad)) (now (a .cipher)) in
+    let expected = c .before .tag-over .ensures ∙ ap (λ (s : Session). tag-over s (now (a .cipher))) (ready r) ∙ tag-over-at (now (a .key)) (now (a .iv)) (now (a .ad)) (now (a .cipher)) in
     sym (c .same .ensures ∙ ap₂ same given expected)
 
 apply-keystream-requires : tie.Need-apply-keystream-requires
 unfolding session-at
 apply-keystream-requires c κs =
     let r = c .before .before .before .before .before .before in
-    let e = ap (λ (s : Sealing). s .text) (ready r) in
+    let e = ap (λ (s : Session). s .text) (ready r) in
     (rw e refl, room (r .before .before .before .before .before .before .before .before .before))
 
 returns-7 : tie.Need-returns-7

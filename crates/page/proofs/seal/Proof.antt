@@ -6,8 +6,8 @@ use native.Mathlib.Omega.{arith}
 use lib.ListN.{length}
 use denote.Ref.{now}
 use Rattle.scope.specs.Limits.{most-data, most-text}
-use Rattle.session.specs.Sealing.{Sealing}
-use Rattle.session.specs.Machine.{sealingOf}
+use Rattle.session.specs.Session.{Session}
+use Rattle.session.specs.Machine.{sessionOf}
 use Rattle.session.specs.Calls.{tag-of}
 use Rattle.page.proofs.Stages.{Stage.taking-data, Stage.taking-text, phase-at, session-at}
 use Rattle.page.proofs.Tags.{tag-at}
@@ -67,13 +67,13 @@ room c = omega (arith, c .if5 .left)
 
 -- ---- the session at each stage
 
-begun : (c : tie.After-begin) → let a = c .before .before .before .before .before .before .before .before .before .before .before .args in sealingOf (c .begin .result .session) ≡ session-at (now (a .key)) (now (a .iv)) (taking-data [])
+begun : (c : tie.After-begin) → let a = c .before .before .before .before .before .before .before .before .before .before .before .args in sessionOf (c .begin .result .session) ≡ session-at (now (a .key)) (now (a .iv)) (taking-data [])
 begun c = let o = c .before in begun-session (now (o .before .before .before .before .before .before .before .before .before .before .args .key)) (now (o .before .before .before .before .before .before .before .before .before .before .args .iv)) _ (key-long o) (iv-long o) (c .begin .ensures .session)
 
-told : (c : tie.After-data-with) → let a = c .before .before .before .before .before .before .before .before .before .before .before .before .before .before .before .before .before .args in sealingOf (c .data-with .result) ≡ session-at (now (a .key)) (now (a .iv)) (taking-data (now (a .ad)))
+told : (c : tie.After-data-with) → let a = c .before .before .before .before .before .before .before .before .before .before .before .before .before .before .before .before .before .args in sessionOf (c .data-with .result) ≡ session-at (now (a .key)) (now (a .iv)) (taking-data (now (a .ad)))
 told c = let a = c .before .before .before .before .before .before .before .before .before .before .before .before .before .before .before .before .before .args in told-session (now (a .key)) (now (a .iv)) (now (a .ad)) _ _ (begun (c .before .before .before .before .before .before)) (c .data-with .ensures)
 
-whole : (c : tie.After-text-with) → let a = c .before .before .before .before .before .before .before .before .before .before .before .before .before .before .before .before .before .before .before .before .args in sealingOf (c .text-with .result) ≡ session-at (now (a .key)) (now (a .iv)) (taking-text (now (a .ad)) (now (a .text)))
+whole : (c : tie.After-text-with) → let a = c .before .before .before .before .before .before .before .before .before .before .before .before .before .before .before .before .before .before .before .before .args in sessionOf (c .text-with .result) ≡ session-at (now (a .key)) (now (a .iv)) (taking-text (now (a .ad)) (now (a .text)))
 whole c =
     let a = c .before .before .before .before .before .before .before .before .before .before .before .before .before .before .before .before .before .before .before .before .args in
     whole-session (now (a .key)) (now (a .iv)) (now (a .ad)) _ (closed-session (now (a .key)) (now (a .iv)) (now (a .ad)) _ _ (told (c .before .before .before)) refl) (now (a .text)) (now (a .out)) (now (a .out)) _ (c .text-with .ensures .0)
@@ -84,8 +84,8 @@ unfolding session-at phase-at
 data-with-requires c κs =
     let b = c .before .before .before .before .before in
     let e = begun b in
-    let n : b .begin .result .session .ad ≡ 0 = ap (λ (s : Sealing). s .ad) e in (
-      ap (λ (s : Sealing). s .phase) e,
+    let n : b .begin .result .session .ad ≡ 0 = ap (λ (s : Session). s .ad) e in (
+      ap (λ (s : Session). s .phase) e,
       omega (arith, ad-fits (b .before)),
       c .before .multiples .ensures,
     )
@@ -97,7 +97,7 @@ text-with-requires c κs =
     let b = d .before .before .before .before .before .before in
     let a = b .before .before .before .before .before .before .before .before .before .before .before .args in
     let e = told d in
-    let n : d .data-with .result .text ≡ 0 = ap (λ (s : Sealing). s .text) e in
+    let n : d .data-with .result .text ≡ 0 = ap (λ (s : Session). s .text) e in
     let t = text-fits (b .before) in (
       record { ordered = omega arith; read = omega arith; room = room (b .before); counts = omega arith },
       lent (now (a .key)) (now (a .iv)) (taking-data []) (taking-data (now (a .ad))) (b .begin .result .session) (d .data-with .result) _ (begun b) e (d .before .before .multiples .ensures),

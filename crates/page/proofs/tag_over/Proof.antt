@@ -6,7 +6,7 @@ use Rattle.ghash.proofs.Elements.{Halves}
 use Rattle.digest.specs.Digest.{Sum}
 use Rattle.session.specs.Calls.{tag-of}
 use Rattle.session.proofs.Made.{by-number}
-use Rattle.session.specs.Machine.{sealingOf}
+use Rattle.session.specs.Machine.{sessionOf}
 use Rattle.page.specs.Inner.{in-text, tag-over}
 use borrow.Author.Needs.{needs}
 use Rattle.page.proofs.tag_over.Statement.{statement}
@@ -22,7 +22,7 @@ returns : tie.Need-returns
 unfolding tag-over
 returns c =
     let a = c .before .before .before .before .before .args in
-    let s = sealingOf (a .s) in
+    let s = sessionOf (a .s) in
     c .tag-with .ensures ∙ ap (λ (m : Sum). tag-of (in-text s (length (now (a .cipher))) m)) (c .before .absorb-with .ensures)
 
 pub tag-over-spec : {M : Type 1} → statement M

@@ -14,15 +14,15 @@ use Rattle.cipher.specs.Step.{z}
 use Rattle.cipher.specs.Run.{move, made}
 use Rattle.cipher.specs.Machine.{registersOf}
 use Rattle.digest.proofs.Slices.{slice-take}
-use Rattle.session.specs.Sealing.{Sealing}
-use Rattle.session.specs.Machine.{sealingOf}
+use Rattle.session.specs.Session.{Session}
+use Rattle.session.specs.Machine.{sessionOf}
 use Rattle.session.proofs.Streaming.{Streaming, begun, stream-turn, stream-end, stream-done}
 use Rattle.session.proofs.apply_keystream.Statement.{statement}
 use Rattle.session.proofs.apply_keystream.Tie as tie
 
 abbrev Inv-loop : tie.InvT-loop
 Inv-loop input out₀ sbox n state₀ i₀ out state i =
-    (s : Sealing) → registersOf state₀ ≡ s .registers → s .text % 16 ≡ 0 → Streaming s input out₀ out (registersOf state) i
+    (s : Session) → registersOf state₀ ≡ s .registers → s .text % 16 ≡ 0 → Streaming s input out₀ out (registersOf state) i
 
 abbrev μ-loop : tie.MeasureT-loop
 μ-loop input out₀ sbox n state₀ i₀ out state i = length input - i
@@ -31,8 +31,8 @@ loop-holds : tie.Need-loop-holds Inv-loop μ-loop
 loop-holds c = λ s e h. begun s _ _ _ e h
 
 -- the session that is given is one of them
-given : (c : tie.At-loop Inv-loop μ-loop) → let a = c .before .before .before .before .before .args in Streaming (sealingOf (a .s)) (now (a .input)) (now (a .out)) (c .loop .out) (registersOf (c .loop .state)) (c .loop .i)
-given c = let start = c .before .before .before .before .before in c .loop .inv (sealingOf (start .args .s)) refl (start .pre .0)
+given : (c : tie.At-loop Inv-loop μ-loop) → let a = c .before .before .before .before .before .args in Streaming (sessionOf (a .s)) (now (a .input)) (now (a .out)) (c .loop .out) (registersOf (c .loop .state)) (c .loop .i)
+given c = let start = c .before .before .before .before .before in c .loop .inv (sessionOf (start .args .s)) refl (start .pre .0)
 
 sub-loop : tie.Need-sub-loop Inv-loop μ-loop
 sub-loop c = given c .going .bound

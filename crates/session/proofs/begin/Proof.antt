@@ -16,7 +16,7 @@ returns c =
     let e : ¬ (start-number (now (a .key)) (now (a .iv)) ≡ 0) = λ z. c .before .if1 .taken (t .number ∙ z) in
     record {
       number = t .number;
-      session = c .nobody .ensures ∙ sym (refused-session (now (a .key)) (now (a .iv)) e);
+      session = c .no-session .ensures ∙ sym (refused-session (now (a .key)) (now (a .iv)) e);
     }
 
 returns-2 : tie.Need-returns-2

@@ -7,7 +7,7 @@ use borrow.Author.Needs.{needs}
 use denote.Ref.{now}
 use lib.ListN.{length}
 use lib.Seq.{slice, length-slice}
-use Rattle.session.specs.Machine.{sealingOf}
+use Rattle.session.specs.Machine.{sessionOf}
 use Rattle.session.specs.Inner.{trackOf}
 use Rattle.session.proofs.Going.{Going, none, more, all-session, all-output, whole-left}
 use Rattle.session.proofs.Made.{riding, turn-session, turn-out, turn-long}
@@ -16,7 +16,7 @@ use Rattle.session.proofs.blocks.Tie as tie
 
 abbrev Inv-loop : tie.InvT-loop
 Inv-loop s piece out₀ from to sbox table h l₀ i₀ out l i =
-    Going (sealingOf s) piece out₀ from to out (riding (sealingOf s) (trackOf l) (s .text + (i - from))) i
+    Going (sessionOf s) piece out₀ from to out (riding (sessionOf s) (trackOf l) (s .text + (i - from))) i
     × (from ≤ i) × ((to - i) % 16 ≡ 0) × (length (l .held .pending) ≡ 16)
 
 abbrev μ-loop : tie.MeasureT-loop
@@ -31,8 +31,8 @@ loop-holds c =
     let a = start .args in
     let q = start .pre .0 in
     let e : a .s .text ≡ a .s .text + (a .from - a .from) = omega arith in (
-      subst (λ (n : ℕ). Going (sealingOf (a .s)) (now (a .piece)) (now (a .out)) (a .from) (a .to) (now (a .out)) (riding (sealingOf (a .s)) (trackOf (record { state = a .s .state; z = a .s .current; held = a .s .held })) n) (a .from)) e
-          (none (sealingOf (a .s)) (now (a .piece)) (now (a .out)) (a .from) (a .to) (q .part .ordered)),
+      subst (λ (n : ℕ). Going (sessionOf (a .s)) (now (a .piece)) (now (a .out)) (a .from) (a .to) (now (a .out)) (riding (sessionOf (a .s)) (trackOf (record { state = a .s .state; z = a .s .current; held = a .s .held })) n) (a .from)) e
+          (none (sessionOf (a .s)) (now (a .piece)) (now (a .out)) (a .from) (a .to) (q .part .ordered)),
       omega arith,
       q .whole,
       held-long start,
@@ -72,7 +72,7 @@ loop-again c =
     let g = l .inv .0 in
     let k = left in-loop in
     let b = c .before .before .block in
-    let S = sealingOf (a .s) in
+    let S = sessionOf (a .s) in
     let p = now (a .piece) in
     let n = a .s .text + (l .i - a .from) in
     let begins : n % 16 ≡ 0 = at-start (a .s .text) (a .from) (l .i) (a .to) (l .inv .1) (g .bound) (q .start) (q .whole) (l .inv .2) in
@@ -103,7 +103,7 @@ returns c =
     let l = at-loop .loop in
     let a = at-loop .before .before .before .before .before .before .before .args in
     let e : l .i ≡ a .to = omega (arith, l .inv .0 .bound, c .before .before .before .before .loop-test .left) in
-    (ap (λ (k : ℕ). riding (sealingOf (a .s)) (trackOf (l .l)) (a .s .text + (k - a .from))) (sym e) ∙ all-session (l .inv .0) e, all-output (l .inv .0) e)
+    (ap (λ (k : ℕ). riding (sessionOf (a .s)) (trackOf (l .l)) (a .s .text + (k - a .from))) (sym e) ∙ all-session (l .inv .0) e, all-output (l .inv .0) e)
 
 pub blocks-spec : {M : Type 1} → statement M
 blocks-spec =

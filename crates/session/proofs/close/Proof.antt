@@ -1,6 +1,6 @@
 -- `session::close` meets its contract, by the phase.
 use mathlib.Core.Path.{ap, _∙_}
-use Rattle.session.specs.Machine.{sealingOf}
+use Rattle.session.specs.Machine.{sessionOf}
 use Rattle.session.specs.Inner.{into-text}
 use Rattle.session.proofs.Pieces.{closed-already, closed-now}
 use borrow.Author.Needs.{needs}
@@ -8,11 +8,11 @@ use Rattle.session.proofs.close.Statement.{statement}
 use Rattle.session.proofs.close.Tie as tie
 
 returns : tie.Need-returns
-returns c = closed-already (sealingOf (c .before .before .args .s)) (c .if1 .taken)
+returns c = closed-already (sessionOf (c .before .before .args .s)) (c .if1 .taken)
 
 returns-2 : tie.Need-returns-2
 returns-2 c =
-    let s = sealingOf (c .before .before .before .before .before .before .args .s) in
+    let s = sessionOf (c .before .before .before .before .before .before .args .s) in
     c .into-text .ensures ∙ ap (into-text s) (c .before .settle .ensures) ∙ closed-now s (c .before .before .before .before .if1 .left)
 
 pub close-spec : {M : Type 1} → statement M

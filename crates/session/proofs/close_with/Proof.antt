@@ -1,7 +1,7 @@
 -- `session::close_with` meets its contract, by the phase.
 use mathlib.Core.Path.{ap, _∙_}
 use Rattle.ghash.proofs.Elements.{Halves}
-use Rattle.session.specs.Machine.{sealingOf}
+use Rattle.session.specs.Machine.{sessionOf}
 use Rattle.session.specs.Inner.{into-text}
 use Rattle.session.proofs.Pieces.{closed-already, closed-now}
 use Rattle.session.proofs.Made.{by-number}
@@ -17,11 +17,11 @@ settle-with-requires : tie.Need-settle-with-requires
 settle-with-requires c κs = let start = c .before .before .before .before in by-number (start .args .s .h) _ (halves start) (start .pre)
 
 returns : tie.Need-returns
-returns c = closed-already (sealingOf (c .before .before .args .s)) (omega (arith, c .if1 .taken))
+returns c = closed-already (sessionOf (c .before .before .args .s)) (omega (arith, c .if1 .taken))
 
 returns-2 : tie.Need-returns-2
 returns-2 c =
-    let s = sealingOf (c .before .before .before .before .before .before .args .s) in
+    let s = sessionOf (c .before .before .before .before .before .before .args .s) in
     c .into-text .ensures ∙ ap (into-text s) (c .before .settle-with .ensures) ∙ closed-now s (omega (arith, c .before .before .before .before .if1 .left))
 
 pub close-with-spec : {M : Type 1} → statement M

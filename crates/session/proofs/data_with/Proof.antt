@@ -2,7 +2,7 @@
 use mathlib.Core.Path.{_∙_}
 use denote.Ref.{now}
 use Rattle.ghash.proofs.Elements.{Halves}
-use Rattle.session.specs.Machine.{sealingOf}
+use Rattle.session.specs.Machine.{sessionOf}
 use Rattle.session.proofs.Pieces.{told-taken}
 use Rattle.session.proofs.Made.{by-number}
 use borrow.Author.Needs.{needs}
@@ -18,7 +18,7 @@ absorb-with-requires c κs = let start = c .before .before .before in by-number 
 returns : tie.Need-returns
 returns c =
     let start = c .before .before .before .before .before in
-    c .told .ensures ∙ told-taken (sealingOf (start .args .s)) (now (start .args .piece)) _ (start .pre .0) (c .before .absorb-with .ensures)
+    c .told .ensures ∙ told-taken (sessionOf (start .args .s)) (now (start .args .piece)) _ (start .pre .0) (c .before .absorb-with .ensures)
 
 pub data-with-spec : {M : Type 1} → statement M
 data-with-spec = tie.close (tie.spec absorb-with-requires (λ c κs. search needs) returns)

@@ -3,13 +3,13 @@ use borrow.Author.Needs.{needs}
 use mathlib.Core.Path.{sym, _∙_}
 use native.Mathlib.Omega.{arith}
 use Rattle.cipher.specs.Run.{move, made}
-use Rattle.session.specs.Machine.{sealingOf}
+use Rattle.session.specs.Machine.{sessionOf}
 use Rattle.session.proofs.Within.{ready-inside, ready-start}
 use Rattle.session.proofs.drawn.Statement.{statement}
 use Rattle.session.proofs.drawn.Tie as tie
 
 returns : tie.Need-returns
-returns c = sym (ready-inside (sealingOf (c .before .before .args .s)) (c .if1 .taken))
+returns c = sym (ready-inside (sessionOf (c .before .before .args .s)) (c .if1 .taken))
 
 returns-2 : tie.Need-returns-2
 unfolding move made
@@ -21,12 +21,12 @@ returns-2 c =
       ad = s .ad;
       text = s .text;
       registers = f .state i;
-      h = sealingOf s .h;
-      pad = sealingOf s .pad;
+      h = sessionOf s .h;
+      pad = sessionOf s .pad;
       current = f .z i;
-      sum = sealingOf s .sum;
+      sum = sessionOf s .sum;
     })
-    ∙ sym (ready-start (sealingOf s) (omega (arith, c .before .before .before .before .if1 .left)))
+    ∙ sym (ready-start (sessionOf s) (omega (arith, c .before .before .before .before .if1 .left)))
 
 pub drawn-spec : {M : Type 1} → statement M
 drawn-spec = tie.close (tie.spec returns (λ c κs. search needs) returns-2)

@@ -6,7 +6,7 @@ use borrow.Author.Needs.{needs}
 use denote.Ref.{now}
 use lib.ListN.{length}
 use lib.Seq.{slice, length-slice}
-use Rattle.session.specs.Machine.{sealingOf}
+use Rattle.session.specs.Machine.{sessionOf}
 use Rattle.session.proofs.Going.{none, all-session, all-output}
 use Rattle.session.proofs.Made.{few-session, part-out}
 use Rattle.session.proofs.few.Statement.{statement}
@@ -16,7 +16,7 @@ returns : tie.Need-returns
 returns c =
     let start = c .before .before .before in
     let a = start .args in
-    let g = none (sealingOf (a .s)) (now (a .piece)) (now (a .out)) (a .from) (a .to) (start .pre .0 .ordered) in
+    let g = none (sessionOf (a .s)) (now (a .piece)) (now (a .out)) (a .from) (a .to) (start .pre .0 .ordered) in
     let e : a .from ≡ a .to = omega (arith, start .pre .0 .ordered) in
     (all-session g e, all-output g e)
 
@@ -33,8 +33,8 @@ returns-2 c =
     let n : length part ≡ a .to - a .from = length-slice (a .from) (a .to) (now (a .piece)) (start .pre .0 .read) in
     let z : 0 < length part = rw n (some else1) in
     let inside : a .s .text % 16 + length part < 16 = rw n (start .pre .1) in (
-      few-session (sealingOf (a .s)) (h .hold .result) part (h .hold .ensures .0) z inside,
-      part-out (sealingOf (a .s)) (h .hold .result) part (h .hold .ensures .0) z (omega arith) (now (a .out)) _ (a .from) (h .hold .ensures .1),
+      few-session (sessionOf (a .s)) (h .hold .result) part (h .hold .ensures .0) z inside,
+      part-out (sessionOf (a .s)) (h .hold .result) part (h .hold .ensures .0) z (omega arith) (now (a .out)) _ (a .from) (h .hold .ensures .1),
     )
 
 pub few-spec : {M : Type 1} → statement M

@@ -9,7 +9,7 @@ use lib.Seq.{slice, length-slice, take-all}
 use Rattle.words.specs.Machine.{bytesOf}
 use Rattle.ghash.specs.Hash.{eat}
 use Rattle.ghash.proofs.Elements.{Halves}
-use Rattle.session.specs.Machine.{sealingOf}
+use Rattle.session.specs.Machine.{sessionOf}
 use Rattle.session.proofs.Going.{none, all-session, all-output}
 use Rattle.session.proofs.Made.{by-number, held-long, full-session, part-out}
 use Rattle.session.proofs.full.Statement.{statement}
@@ -19,7 +19,7 @@ returns : tie.Need-returns
 returns c =
     let start = c .before .before .before in
     let a = start .args in
-    let g = none (sealingOf (a .s)) (now (a .piece)) (now (a .out)) (a .from) (a .to) (start .pre .0 .ordered) in
+    let g = none (sessionOf (a .s)) (now (a .piece)) (now (a .out)) (a .from) (a .to) (start .pre .0 .ordered) in
     (all-session g (c .if1 .taken), all-output g (c .if1 .taken))
 
 some : (c : tie.Else1) → let a = c .before .before .before .args in (0 < a .to - a .from) × (a .s .text % 16 + (a .to - a .from) ≡ 16)
@@ -31,7 +31,7 @@ start-long c = search needs
 pending-long : (c : tie.After-hold) → length (c .hold .result .held .pending) ≡ 16
 pending-long c =
     let start = c .before .before .before .before .before in
-    held-long (sealingOf (start .args .s)) (c .hold .result) _ (c .hold .ensures .0) ∙ start-long start
+    held-long (sessionOf (start .args .s)) (c .hold .result) _ (c .hold .ensures .0) ∙ start-long start
 
 hold-requires : tie.Need-hold-requires
 hold-requires c κs =
@@ -58,7 +58,7 @@ returns-2 c =
     let else1 = h .before .before in
     let start = else1 .before .before .before in
     let a = start .args in
-    let S = sealingOf (a .s) in
+    let S = sessionOf (a .s) in
     let r = h .hold .result in
     let part = slice (a .from) (a .to) (now (a .piece)) in
     let n : length part ≡ a .to - a .from = length-slice (a .from) (a .to) (now (a .piece)) (start .pre .0 .read) in
@@ -66,7 +66,7 @@ returns-2 c =
     let full : a .s .text % 16 + length part ≡ 16 = rw n (some else1 .1) in
     let k = pending-long h in
     let x : bytesOf (l .load .result) ≡ r .held .pending = l .load .ensures ∙ take-all 16 (r .held .pending) (omega arith) in (
-      full-session S r part (h .hold .ensures .0) z full _ (c .absorb .ensures ∙ ap (eat (S .h) (sealingOf r .sum .hash)) x),
+      full-session S r part (h .hold .ensures .0) z full _ (c .absorb .ensures ∙ ap (eat (S .h) (sessionOf r .sum .hash)) x),
       part-out S r part (h .hold .ensures .0) z (omega arith) (now (a .out)) _ (a .from) (h .hold .ensures .1),
     )
 

@@ -5,15 +5,15 @@ use native.Mathlib.Omega.{arith}
 use borrow.Author.Needs.{needs}
 use denote.Ref.{now}
 use lib.Seq.{slice, length-slice}
-use Rattle.session.specs.Sealing.{Sealing}
-use Rattle.session.specs.Machine.{sealingOf}
+use Rattle.session.specs.Session.{Session}
+use Rattle.session.specs.Machine.{sessionOf}
 use Rattle.session.proofs.Within.{ready-text}
 use Rattle.session.proofs.Made.{held-session, held-out}
 use Rattle.session.proofs.hold.Statement.{statement}
 use Rattle.session.proofs.hold.Tie as tie
 
 same-text : (c : tie.After-drawn) → c .drawn .result .text ≡ c .before .before .before .args .s .text
-same-text c = ap (λ (u : Sealing). u .text) (c .drawn .ensures) ∙ ready-text (sealingOf (c .before .before .before .args .s))
+same-text c = ap (λ (u : Session). u .text) (c .drawn .ensures) ∙ ready-text (sessionOf (c .before .before .before .args .s))
 
 under-requires : tie.Need-under-requires
 under-requires c κs =
@@ -34,8 +34,8 @@ returns c =
     let d = u .before .before .before .before .before .before in
     let start = d .before .before .before in
     let a = start .args in
-    let S = sealingOf (a .s) in
-    let R = sealingOf (d .drawn .result) in
+    let S = sessionOf (a .s) in
+    let R = sessionOf (d .drawn .result) in
     let part = slice (a .from) (a .to) (now (a .piece)) in
     let n = length-slice (a .from) (a .to) (now (a .piece)) (start .pre .0 .read) in
     let k = u .before .before .to-bytes in (

@@ -1,12 +1,12 @@
 -- `session::into_text` meets its contract: nothing is held under the hash of the data.
-use Rattle.session.specs.Machine.{sealingOf}
+use Rattle.session.specs.Machine.{sessionOf}
 use borrow.Author.Needs.{needs}
 use Rattle.session.proofs.into_text.Statement.{statement}
 use Rattle.session.proofs.into_text.Tie as tie
 
 returns : tie.Need-returns
 returns c =
-    let s = sealingOf (c .before .args .s) in
+    let s = sessionOf (c .before .args .s) in
     λ i. record {
       phase = 1;
       ad = s .ad;

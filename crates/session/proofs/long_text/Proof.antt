@@ -7,7 +7,7 @@ use borrow.Author.Needs.{needs}
 use denote.Ref.{now}
 use lib.ListN.{length}
 use Rattle.digest.proofs.Slices.{headOf, tailOf}
-use Rattle.session.specs.Machine.{sealingOf}
+use Rattle.session.specs.Machine.{sessionOf}
 use Rattle.session.proofs.Going.{Going, none, more, whole, Parts, parts, begins, ends, counted}
 use Rattle.session.proofs.long_text.Statement.{statement}
 use Rattle.session.proofs.long_text.Tie as tie
@@ -16,25 +16,25 @@ cuts : (c : tie.Start) → Parts (c .args .s .text) (length (now (c .args .piece
 cuts c = parts (c .args .s .text) (length (now (c .args .piece))) (omega (arith, c .pre .1))
 
 -- the head is done, then the blocks, then the tail
-headed : (c : tie.After-full) → let a = c .before .before .before .before .before .before .before .args in Going (sealingOf (a .s)) (now (a .piece)) (now (a .out)) 0 (length (now (a .piece))) (c .full .last .1 .1 .0) (sealingOf (c .full .result)) (headOf (a .s .text))
+headed : (c : tie.After-full) → let a = c .before .before .before .before .before .before .before .args in Going (sessionOf (a .s)) (now (a .piece)) (now (a .out)) 0 (length (now (a .piece))) (c .full .last .1 .1 .0) (sessionOf (c .full .result)) (headOf (a .s .text))
 headed c =
     let start = c .before .before .before .before .before .before .before in
     let a = start .args in
     let q = cuts start in
-    let g = none (sealingOf (a .s)) (now (a .piece)) (now (a .out)) 0 (length (now (a .piece))) (omega arith) in
-    more g _ (sealingOf (c .full .result)) (headOf (a .s .text)) (omega arith) (le-trans (q .head-tail) (q .tail-end)) (le-refl _) (c .full .ensures .0) (c .full .ensures .1)
+    let g = none (sessionOf (a .s)) (now (a .piece)) (now (a .out)) 0 (length (now (a .piece))) (omega arith) in
+    more g _ (sessionOf (c .full .result)) (headOf (a .s .text)) (omega arith) (le-trans (q .head-tail) (q .tail-end)) (le-refl _) (c .full .ensures .0) (c .full .ensures .1)
 
-blocked : (c : tie.After-blocks2) → let a = c .before .before .before .before .before .before .before .before .before .before .before .before .args in Going (sealingOf (a .s)) (now (a .piece)) (now (a .out)) 0 (length (now (a .piece))) (c .blocks2 .last .1 .1 .0) (sealingOf (c .blocks2 .result)) (tailOf (a .s .text) (length (now (a .piece))))
+blocked : (c : tie.After-blocks2) → let a = c .before .before .before .before .before .before .before .before .before .before .before .before .args in Going (sessionOf (a .s)) (now (a .piece)) (now (a .out)) 0 (length (now (a .piece))) (c .blocks2 .last .1 .1 .0) (sessionOf (c .blocks2 .result)) (tailOf (a .s .text) (length (now (a .piece))))
 blocked c =
     let a = c .before .before .before .before .before .before .before .before .before .before .before .before .args in
     let q = cuts (c .before .before .before .before .before .before .before .before .before .before .before .before) in
-    more (headed (c .before .before .before .before .before)) _ (sealingOf (c .blocks2 .result)) (tailOf (a .s .text) (length (now (a .piece)))) (q .head-tail) (q .tail-end) (le-refl _) (c .blocks2 .ensures .0) (c .blocks2 .ensures .1)
+    more (headed (c .before .before .before .before .before)) _ (sessionOf (c .blocks2 .result)) (tailOf (a .s .text) (length (now (a .piece)))) (q .head-tail) (q .tail-end) (le-refl _) (c .blocks2 .ensures .0) (c .blocks2 .ensures .1)
 
-ended : (c : tie.After-few) → let a = c .before .before .before .before .before .before .before .before .before .before .before .before .before .before .before .before .before .args in Going (sealingOf (a .s)) (now (a .piece)) (now (a .out)) 0 (length (now (a .piece))) (c .few .last .1 .1 .0) (sealingOf (c .few .result)) (length (now (a .piece)))
+ended : (c : tie.After-few) → let a = c .before .before .before .before .before .before .before .before .before .before .before .before .before .before .before .before .before .args in Going (sessionOf (a .s)) (now (a .piece)) (now (a .out)) 0 (length (now (a .piece))) (c .few .last .1 .1 .0) (sessionOf (c .few .result)) (length (now (a .piece)))
 ended c =
     let a = c .before .before .before .before .before .before .before .before .before .before .before .before .before .before .before .before .before .args in
     let q = cuts (c .before .before .before .before .before .before .before .before .before .before .before .before .before .before .before .before .before) in
-    more (blocked (c .before .before .before .before .before)) _ (sealingOf (c .few .result)) (length (now (a .piece))) (q .tail-end) (le-refl _) (le-refl _) (c .few .ensures .0) (c .few .ensures .1)
+    more (blocked (c .before .before .before .before .before)) _ (sessionOf (c .few .result)) (length (now (a .piece))) (q .tail-end) (le-refl _) (le-refl _) (c .few .ensures .0) (c .few .ensures .1)
 
 full-requires : tie.Need-full-requires
 full-requires c κs =

@@ -6,9 +6,9 @@ use Rattle.words.specs.Xor.{xors}
 use Rattle.ghash.specs.Hash.{eat}
 use Rattle.ghash.proofs.Elements.{Halves}
 use Rattle.digest.specs.Digest.{settled}
-use Rattle.session.specs.Sealing.{Sealing}
+use Rattle.session.specs.Session.{Session}
 use Rattle.session.specs.Calls.{tag-of}
-use Rattle.session.specs.Machine.{sealingOf}
+use Rattle.session.specs.Machine.{sessionOf}
 use Rattle.session.proofs.Made.{by-number}
 use borrow.Author.Needs.{needs}
 use Rattle.session.proofs.tag_with.Statement.{statement}
@@ -26,8 +26,8 @@ absorb-requires c κs = let start = c .before .before .before .before .before .b
 returns : tie.Need-returns
 unfolding tag-of
 returns c =
-    let s = sealingOf (c .before .before .before .before .before .before .before .before .before .args .s) in
-    let text = c .before .before .before .before .settle-with .ensures ∙ ap (λ (u : Sealing). settled (s .h) (u .sum) (s .text)) (c .before .before .before .before .before .before .close-with .ensures) in
+    let s = sessionOf (c .before .before .before .before .before .before .before .before .before .args .s) in
+    let text = c .before .before .before .before .settle-with .ensures ∙ ap (λ (u : Session). settled (s .h) (u .sum) (s .text)) (c .before .before .before .before .before .before .close-with .ensures) in
     c .xor .ensures
     ∙ ap (λ (x : List ℕ). xors x (s .pad)) (c .before .to-block .ensures ∙ c .before .before .absorb .ensures ∙ ap₂ (eat (s .h)) text (c .before .before .before .bits .ensures))
 

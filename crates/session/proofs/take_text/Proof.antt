@@ -3,7 +3,7 @@
 use native.Mathlib.Omega.{arith}
 use borrow.Author.Needs.{needs}
 use denote.Ref.{now}
-use Rattle.session.specs.Machine.{sealingOf}
+use Rattle.session.specs.Machine.{sessionOf}
 use Rattle.session.proofs.Pieces.{closed-count, closed-piece}
 use Rattle.session.proofs.take_text.Statement.{statement}
 use Rattle.session.proofs.take_text.Tie as tie
@@ -11,14 +11,14 @@ use Rattle.session.proofs.take_text.Tie as tie
 short-text-requires : tie.Need-short-text-requires
 short-text-requires c κs =
     let start = c .before .before .before .before .before .before in
-    let e = closed-count (sealingOf (start .args .s)) (sealingOf (c .before .close .result)) (c .before .close .ensures) in
+    let e = closed-count (sessionOf (start .args .s)) (sessionOf (c .before .close .result)) (c .before .close .ensures) in
     (rw e (start .pre), rw e (omega arith))
 
 returns : tie.Need-returns
 returns c =
     let a = c .before .before .before .before .before .before .before .before .before .args in
     let close = c .before .before .before .before .close in
-    closed-piece (sealingOf (a .s)) (sealingOf (close .result)) (close .ensures) _ (now (a .piece)) (now (a .out)) _ (c .before .before .short-text .ensures)
+    closed-piece (sessionOf (a .s)) (sessionOf (close .result)) (close .ensures) _ (now (a .piece)) (now (a .out)) _ (c .before .before .short-text .ensures)
 
 pub take-text-spec : {M : Type 1} → statement M
 take-text-spec =

@@ -3,15 +3,15 @@ use mathlib.Core.Path.{_≡_, ap, _∙_}
 use native.Mathlib.Omega.{arith}
 use borrow.Author.Needs.{needs}
 use denote.Ref.{now}
-use Rattle.session.specs.Sealing.{Sealing}
-use Rattle.session.specs.Machine.{sealingOf}
+use Rattle.session.specs.Session.{Session}
+use Rattle.session.specs.Machine.{sessionOf}
 use Rattle.session.proofs.Pieces.{closed-h, closed-count, closed-piece}
 use Rattle.session.proofs.text_with.Statement.{statement}
 use Rattle.session.proofs.text_with.Tie as tie
 
 -- closing leaves the length of the text
 same-text : (c : tie.After-close-with) → c .close-with .result .text ≡ c .before .before .before .args .s .text
-same-text c = closed-count (sealingOf (c .before .before .before .args .s)) (sealingOf (c .close-with .result)) (c .close-with .ensures)
+same-text c = closed-count (sessionOf (c .before .before .before .args .s)) (sessionOf (c .close-with .result)) (c .close-with .ensures)
 
 short-text-requires : tie.Need-short-text-requires
 short-text-requires c κs =
@@ -23,21 +23,21 @@ returns : tie.Need-returns
 returns c =
     let closed = c .before .before .before .before .before .before in
     let a = closed .before .before .before .args in
-    closed-piece (sealingOf (a .s)) (sealingOf (closed .close-with .result)) (closed .close-with .ensures) _ (now (a .piece)) (now (a .out)) _ (c .before .before .short-text .ensures)
+    closed-piece (sessionOf (a .s)) (sessionOf (closed .close-with .result)) (closed .close-with .ensures) _ (now (a .piece)) (now (a .out)) _ (c .before .before .short-text .ensures)
 
 long-text-requires : tie.Need-long-text-requires
 long-text-requires c κs =
     let closed = c .before .before .before in
     let start = closed .before .before .before in
     let e = same-text closed in
-    let h = ap (λ (u : Sealing). u .h) (closed .close-with .ensures) ∙ closed-h (sealingOf (start .args .s)) in
+    let h = ap (λ (u : Session). u .h) (closed .close-with .ensures) ∙ closed-h (sessionOf (start .args .s)) in
     (rw e (start .pre .0), rw e (omega arith), rw h (start .pre .1))
 
 returns-2 : tie.Need-returns-2
 returns-2 c =
     let closed = c .before .before .before .before .before .before in
     let a = closed .before .before .before .args in
-    closed-piece (sealingOf (a .s)) (sealingOf (closed .close-with .result)) (closed .close-with .ensures) _ (now (a .piece)) (now (a .out)) _ (c .before .before .long-text .ensures)
+    closed-piece (sessionOf (a .s)) (sessionOf (closed .close-with .result)) (closed .close-with .ensures) _ (now (a .piece)) (now (a .out)) _ (c .before .before .long-text .ensures)
 
 pub text-with-spec : {M : Type 1} → statement M
 text-with-spec =

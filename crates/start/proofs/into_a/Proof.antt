@@ -3,15 +3,14 @@ use Prim.Native.Nat.{ℕ}
 use mathlib.Core.Path.{_≡_, ap, ap₂, _∙_}
 use mathlib.Core.List.{List, _++_}
 use lib.Dec.{lit<, lit≤}
-use lib.ListN.{getD, take, drop}
-use mir.Syntax.{w16}
-use mir.Val.{Fits}
+use lib.ListN.{take, drop}
 use Rattle.words.specs.Xor.{xors}
 use Rattle.words.specs.Bytes.{Row, numbers}
 use Rattle.words.specs.Machine.{bytesOf}
 use Rattle.words.proofs.Rows.{row-take, row-drop}
 use Rattle.words.proofs.Bytes.{numbers-littles}
 use Rattle.words.proofs.Blocks.{bytesOf-block}
+use Rattle.cipher.proofs.Typed.{every-state}
 use Rattle.start.specs.Start.{into-a}
 use Rattle.start.proofs.Splitting.{mixed-cells}
 use borrow.Author.Needs.{needs}
@@ -19,7 +18,7 @@ use Rattle.start.proofs.into_a.Statement.{statement}
 use Rattle.start.proofs.into_a.Tie as tie
 
 cells-row : (c : tie.Start) → Row 16 65536 (c .args .s .lfsr .a)
-cells-row c = let f : (i : ℕ) → Fits w16 (getD (c .args .s .lfsr .a) i 0) = λ i. search needs in record { long = search needs; below = λ i. f i .fits }
+cells-row c = every-state (c .args .s) _ (c .good .0) .cells .in-a
 
 returns : tie.Need-returns
 unfolding into-a

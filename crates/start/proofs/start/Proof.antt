@@ -6,6 +6,7 @@ use denote.Ref.{now}
 use Rattle.scope.specs.Refusals.{granted}
 use Rattle.start.specs.Start.{start, blank}
 use Rattle.start.proofs.Answers.{bad-key, bad-iv, both-right, key-whole, iv-whole}
+use Rattle.start.specs.Machine.{modeOf}
 use borrow.Author.Needs.{needs}
 use Rattle.start.proofs.start.Statement.{statement}
 use Rattle.start.proofs.start.Tie as tie
@@ -14,13 +15,13 @@ returns : tie.Need-returns
 returns c =
     let a = c .before .before .before .before .args in
     let e = bad-key (now (a .key)) (now (a .iv)) (c .before .if1 .taken) in
-    record { number = sym e; state = c .blank-state .ensures ∙ sym (ap (λ (n : ℕ). granted n (start (now (a .key)) (now (a .iv)) (a .mode)) blank) e) }
+    record { number = sym e; state = c .blank-state .ensures ∙ sym (ap (λ (n : ℕ). granted n (start (now (a .key)) (now (a .iv)) (modeOf (a .mode))) blank) e) }
 
 returns-2 : tie.Need-returns-2
 returns-2 c =
     let a = c .before .before .before .before .before .args in
     let e = bad-iv (now (a .key)) (now (a .iv)) (c .before .before .if1 .left) (c .before .if2 .taken) in
-    record { number = sym e; state = c .blank-state2 .ensures ∙ sym (ap (λ (n : ℕ). granted n (start (now (a .key)) (now (a .iv)) (a .mode)) blank) e) }
+    record { number = sym e; state = c .blank-state2 .ensures ∙ sym (ap (λ (n : ℕ). granted n (start (now (a .key)) (now (a .iv)) (modeOf (a .mode))) blank) e) }
 
 returns-3 : tie.Need-returns-3
 returns-3 c =
@@ -31,8 +32,8 @@ returns-3 c =
     record {
       number = sym e;
       state = c .sixteen-steps .ensures
-          ∙ ap₂ (λ (k v : List ℕ). start k v (a .mode)) (key-whole (now (a .key)) _ _ lk (c .before .before .before .load .ensures) (c .before .before .load2 .ensures)) (iv-whole (now (a .iv)) _ li (c .before .load3 .ensures))
-          ∙ sym (ap (λ (n : ℕ). granted n (start (now (a .key)) (now (a .iv)) (a .mode)) blank) e);
+          ∙ ap₂ (λ (k v : List ℕ). start k v (modeOf (a .mode))) (key-whole (now (a .key)) _ _ lk (c .before .before .before .load .ensures) (c .before .before .load2 .ensures)) (iv-whole (now (a .iv)) _ li (c .before .load3 .ensures))
+          ∙ sym (ap (λ (n : ℕ). granted n (start (now (a .key)) (now (a .iv)) (modeOf (a .mode))) blank) e);
     }
 
 pub start-spec : {M : Type 1} → statement M

@@ -1,7 +1,7 @@
 -- `suspend::resume` meets its contract, by the key's length, the layout rules and the answer of the trace.
-use mathlib.Core.Path.{_≡_, refl, sym, ap, ap₂, subst, _∙_}
+use mathlib.Core.Path.{_≡_, sym, ap, ap₂, subst, _∙_}
 use mathlib.Core.Bool.{true}
-use mathlib.Core.List.{_++_}
+use mathlib.Core.List.{List, _++_}
 use Prim.Native.Nat.{ℕ, _≤_}
 use borrow.Author.Needs.{needs}
 use borrow.Author.Tests.{not-true, not-false}
@@ -9,30 +9,38 @@ use denote.Ref.{now}
 use Rattle.scope.specs.Limits.{most-text}
 use Rattle.words.specs.Bytes.{little}
 use Rattle.cipher.specs.Registers.{Registers}
-use Rattle.start.specs.Trace.{Answer.origin, trace}
-use Rattle.start.specs.Machine.{answerOf}
-use Rattle.session.specs.Sealing.{drawn-at}
-use Rattle.layout.specs.Block.{Kept, read}
+use Rattle.cipher.specs.Machine.{registersOf}
+use Rattle.start.specs.Start.{Mode, Mode.sealed}
+use Rattle.start.specs.Leads.{LeadsTo, Traced.origin, Traces}
+use Rattle.start.specs.Trace.{trace}
+use Rattle.start.specs.Machine.{modeOf, tracedOf}
+use Rattle.session.specs.Session.{Session, drawn-at}
+use Rattle.layout.specs.Block.{Suspended, read}
 use Rattle.layout.specs.Rules.{well-laid}
 use Rattle.layout.proofs.Obeying.{laid-long, laid-text}
-use Rattle.suspend.specs.Calls.{Resumed, revived}
-use Rattle.suspend.specs.Machine.{Resumes}
-use Rattle.suspend.proofs.Resuming.{resume-bad-key, resume-bad-block, resume-refused, resume-plain, resume-sealed}
+use Rattle.suspend.specs.Calls.{Resumed, revived, resume-call, Revives}
+use Rattle.suspend.proofs.Resuming.{resume-bad-key, revives-bad-key, resume-bad-block, revives-bad-block, resume-refused, revives-refused, resume-plain, revives-plain, resume-sealed, revives-sealed}
 use Rattle.suspend.proofs.resume.Statement.{statement}
 use Rattle.suspend.proofs.resume.Tie as tie
+
+-- both clauses, of an answer r that is known to be g
+both : (key b : List ℕ) {r g : Resumed} → r ≡ g → Revives key b g → g ≡ resume-call key b → Revives key b r × (r ≡ resume-call key b)
+both key b e v w = (subst (Revives key b) (sym e) v, e ∙ w)
 
 returns : tie.Need-returns
 returns c =
     let a = c .before .before .before .before .args in
-    subst (λ (g : Resumed). Resumes g (c .refused .result)) (sym (resume-bad-key (now (a .key)) (now (a .block)) (c .before .if1 .taken))) (c .refused .ensures)
+    let h = c .before .if1 .taken in
+    both (now (a .key)) (now (a .block)) (c .refused .ensures) (revives-bad-key (now (a .key)) (now (a .block)) h) (resume-bad-key (now (a .key)) (now (a .block)) h)
 
 returns-2 : tie.Need-returns-2
 returns-2 c =
     let w = c .before .before in
     let l = w .before in
     let a = l .before .before .before .args in
+    let h = l .if1 .left in
     let e = sym (w .well-laid .ensures) ∙ not-true _ (c .before .if2 .taken) in
-    subst (λ (g : Resumed). Resumes g (c .refused2 .result)) (sym (resume-bad-block (now (a .key)) (now (a .block)) (l .if1 .left) e)) (c .refused2 .ensures)
+    both (now (a .key)) (now (a .block)) (c .refused2 .ensures) (revives-bad-block (now (a .key)) (now (a .block)) h e) (resume-bad-block (now (a .key)) (now (a .block)) h e)
 
 -- the block obeys the rules
 laid : (c : tie.Else2) → well-laid (now (c .before .before .before .before .before .args .block)) ≡ true
@@ -44,28 +52,39 @@ read-requires c κs = laid-long _ (laid c)
 drawn-requires : tie.Need-drawn-requires
 drawn-requires c κs =
     let r = c .before in
-    subst (λ (n : ℕ). n ≤ most-text) (sym (ap (λ (k : Kept). k .text) (r .read .ensures))) (laid-text _ (laid (r .before)))
+    subst (λ (n : ℕ). n ≤ most-text) (sym (ap (λ (k : Suspended). k .text) (r .read .ensures))) (laid-text _ (laid (r .before)))
 
 -- the answer of the trace, of what the block says
-traced : (c : tie.After-trace)
-    → let a = c .before .before .before .before .before .before .before .before .before .args in answerOf (c .trace .result)
+walked : (c : tie.After-trace)
+    → let a = c .before .before .before .before .before .before .before .before .before .args in tracedOf (c .trace .result)
     ≡ trace (read (now (a .block)) .registers) (now (a .key)) (drawn-at (read (now (a .block)) .text))
-traced c =
+walked c =
     let d = c .before in
     let r = d .before .before in
     let a = r .before .before .before .before .before .before .args in
-    c .trace .ensures
-    ∙ ap₂ (λ (s : Registers) (n : ℕ). trace s (now (a .key)) n) (ap (λ (k : Kept). k .registers) (r .read .ensures))
-    (d .drawn .ensures ∙ ap (λ (k : Kept). drawn-at (k .text)) (r .read .ensures))
+    c .trace .ensures .1
+    ∙ ap₂ (λ (s : Registers) (n : ℕ). trace s (now (a .key)) n) (ap (λ (k : Suspended). k .registers) (r .read .ensures))
+    (d .drawn .ensures ∙ ap (λ (k : Suspended). drawn-at (k .text)) (r .read .ensures))
+
+traces : (c : tie.After-trace)
+    → let a = c .before .before .before .before .before .before .before .before .before .args in
+    Traces (read (now (a .block)) .registers) (now (a .key)) (drawn-at (read (now (a .block)) .text)) (tracedOf (c .trace .result))
+traces c =
+    let d = c .before in
+    let r = d .before .before in
+    let a = r .before .before .before .before .before .before .args in
+    subst (λ (k : Suspended). Traces (k .registers) (now (a .key)) (drawn-at (k .text)) (tracedOf (c .trace .result))) (r .read .ensures)
+    (subst (λ (n : ℕ). Traces (registersOf (r .read .result .state)) (now (a .key)) n (tracedOf (c .trace .result))) (d .drawn .ensures) (c .trace .ensures .0))
 
 returns-3 : tie.Need-returns-3
 returns-3 c =
     let t = c .before .before .before in
     let l = t .before .before .before .before in
     let a = l .before .before .before .before .before .args in
-    let x = c .before .enum-told .given in
-    subst (λ (g : Resumed). Resumes g (c .refused3 .result))
-    (sym (resume-refused (now (a .key)) (now (a .block)) (l .before .before .if1 .left) (laid l) (traced t) _ (ap answerOf (x .1)))) (c .refused3 .ensures)
+    let h = l .before .before .if1 .left in
+    let e = ap tracedOf (c .before .enum-told .given .1) in
+    both (now (a .key)) (now (a .block)) (c .refused3 .ensures) (revives-refused (now (a .key)) (now (a .block)) h (laid l) (traces t) _ e)
+    (resume-refused (now (a .key)) (now (a .block)) h (laid l) (walked t) _ e)
 
 returns-4 : tie.Need-returns-4
 returns-4 c =
@@ -73,11 +92,29 @@ returns-4 c =
     let t = o .before .before in
     let l = t .before .before .before .before in
     let a = l .before .before .before .before .before .args in
+    let h = l .before .before .if1 .left in
     let x = o .o .given in
     let iv = little 8 (x .0 .0 .lo) ++ little 8 (x .0 .0 .hi) in
-    subst (λ (g : Resumed). Resumes g (c .refused4 .result))
-    (sym (resume-plain (now (a .key)) (now (a .block)) (l .before .before .if1 .left) (laid l) (traced t) iv
-    (ap answerOf (x .1) ∙ ap (origin iv) (c .before .enum-told2 .given .1)))) (c .refused4 .ensures)
+    let e = ap tracedOf (x .1) ∙ ap (λ m. origin iv (modeOf m)) (c .before .enum-told2 .given .1) in
+    both (now (a .key)) (now (a .block)) (c .refused4 .ensures) (revives-plain (now (a .key)) (now (a .block)) h (laid l) (traces t) iv e)
+    (resume-plain (now (a .key)) (now (a .block)) h (laid l) (walked t) iv e)
+
+revived-requires : tie.Need-revived-requires
+revived-requires c κs =
+    let o = c .before .before .before .before in
+    let t = o .before .before in
+    let d = t .before in
+    let r = d .before .before in
+    let a = r .before .before .before .before .before .before .args in
+    let x = o .o .given in
+    let iv = little 8 (x .0 .0 .lo) ++ little 8 (x .0 .0 .hi) in
+    let e = ap tracedOf (x .1) ∙ ap (λ m. origin iv (modeOf m)) (c .before .enum-told3 .given .1) in
+    let l = t .trace .ensures .0 .found iv sealed .0 e in
+    (
+      l .0 .0,
+      subst (λ (v : List ℕ). LeadsTo (now (a .key)) (drawn-at (r .read .result .text)) v sealed (registersOf (r .read .result .state))) (sym (c .iv-bytes .ensures))
+      (subst (λ (n : ℕ). LeadsTo (now (a .key)) n iv sealed (registersOf (r .read .result .state))) (d .drawn .ensures) (l .1)),
+    )
 
 returns-5 : tie.Need-returns-5
 returns-5 c =
@@ -87,16 +124,15 @@ returns-5 c =
     let r = t .before .before .before in
     let l = r .before in
     let a = l .before .before .before .before .before .args in
+    let h = l .before .before .if1 .left in
     let x = o .o .given in
     let iv = little 8 (x .0 .0 .lo) ++ little 8 (x .0 .0 .hi) in
-    subst (λ (g : Resumed). Resumes g (record { answer = 0; iv = v .iv-bytes .result; session = c .revived .result }))
-    (sym (resume-sealed (now (a .key)) (now (a .block)) (l .before .before .if1 .left) (laid l) (traced t) iv
-    (ap answerOf (x .1) ∙ ap (origin iv) (v .before .enum-told3 .given .1))))
-    (record {
-      number = refl;
-      iv = v .iv-bytes .ensures;
-      session = c .revived .ensures ∙ ap₂ (revived (now (a .key))) (v .iv-bytes .ensures) (r .read .ensures);
-    })
+    let e = ap tracedOf (x .1) ∙ ap (λ m. origin iv (modeOf m)) (v .before .enum-told3 .given .1) in
+    both (now (a .key)) (now (a .block))
+    (ap₂ (λ (u : List ℕ) (s : Session). record { number = 0; iv = u; session = s }) (v .iv-bytes .ensures)
+    (c .revived .ensures ∙ ap₂ (revived (now (a .key))) (v .iv-bytes .ensures) (r .read .ensures)))
+    (revives-sealed (now (a .key)) (now (a .block)) h (laid l) (traces t) iv e)
+    (resume-sealed (now (a .key)) (now (a .block)) h (laid l) (walked t) iv e)
 
 pub resume-spec : {M : Type 1} → statement M
 resume-spec =
@@ -118,6 +154,6 @@ resume-spec =
     (λ c κs. search needs)
     (λ c. search needs)
     (λ c κs. search needs)
-    (λ c κs. search needs)
+    revived-requires
     returns-4
     returns-5)

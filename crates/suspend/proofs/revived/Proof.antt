@@ -3,28 +3,34 @@ use mathlib.Core.Path.{_≡_, _∙_}
 use borrow.Author.Needs.{needs}
 use denote.Ref.{now}
 use lib.ListN.{length}
-use Rattle.cipher.specs.Run.{made}
+use Rattle.words.specs.Bytes.{Row}
+use Rattle.words.proofs.Typed.{known-bytes}
+use Rattle.cipher.specs.Run.{moves}
 use Rattle.cipher.specs.Machine.{registersOf}
 use Rattle.start.proofs.Answers.{both-right}
 use Rattle.digest.specs.Machine.{sumOf}
 use Rattle.session.proofs.Beginning.{granted-session}
 use Rattle.suspend.specs.Calls.{revived}
+use Rattle.suspend.proofs.Resuming.{last-drawn}
 use Rattle.suspend.proofs.revived.Statement.{statement}
 use Rattle.suspend.proofs.revived.Tie as tie
 
 iv-long : (c : tie.Start) → length (c .args .t2) ≡ 16
 iv-long c = search needs
 
+key-row : (c : tie.After-shared-slice-known) → Row 32 256 (now (c .before .args .key))
+key-row c = record { long = c .before .pre .0; below = known-bytes (now (c .before .args .key)) (c .shared-slice-known .given) }
+
 returns : tie.Need-returns
-unfolding revived made
+unfolding revived moves
 returns c =
     let b = c .before .before .before .before .before .before .before in
     let s = b .before .before .before .before .before in
     let key = now (s .args .key) in
     let iv = s .args .t2 in
     let k = s .args .k in
-    let first = b .begin .ensures .session ∙ granted-session key iv (both-right key iv (s .pre) (iv-long s)) in
-    let current = c .before .backward .ensures .z in
+    let first = b .begin .ensures .session ∙ granted-session key iv (both-right key iv (s .pre .0) (iv-long s)) in
+    let current = c .before .backward .ensures .z ∙ last-drawn key iv (key-row (b .before .before .before .before)) (k .text) (s .pre .1) in
     λ i. record {
       phase = k .phase;
       ad = k .ad;

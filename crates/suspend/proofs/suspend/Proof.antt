@@ -5,7 +5,7 @@ use Prim.Native.Nat.{ℕ}
 use borrow.Author.Needs.{needs}
 use denote.Ref.{now}
 use lib.ListN.{drop}
-use Rattle.session.specs.Machine.{sealingOf}
+use Rattle.session.specs.Machine.{sessionOf}
 use Rattle.suspend.specs.Calls.{suspend-call}
 use Rattle.suspend.proofs.Suspending.{finished-number, short-number, accepted-number, finished-out, short-out, accepted-out}
 use Rattle.suspend.proofs.suspend.Statement.{statement}
@@ -15,7 +15,7 @@ returns : tie.Need-returns
 unfolding suspend-call
 returns c =
     let a = c .before .before .before .args in
-    let s = sealingOf (a .s) in
+    let s = sessionOf (a .s) in
     let out = now (a .out) in
     let h = c .if1 .taken in
     (record { number = sym (finished-number s out h); session = refl }, finished-out s out h)
@@ -24,7 +24,7 @@ returns-2 : tie.Need-returns-2
 unfolding suspend-call
 returns-2 c =
     let a = c .before .before .before .before .args in
-    let s = sealingOf (a .s) in
+    let s = sessionOf (a .s) in
     let out = now (a .out) in
     let h = c .before .if1 .left in
     let k = c .if2 .taken in
@@ -37,7 +37,7 @@ returns-3 c =
     let b = p .before .before in
     let e = b .before .before .before in
     let a = e .before .before .before .before .args in
-    let s = sealingOf (a .s) in
+    let s = sessionOf (a .s) in
     let out = now (a .out) in
     let h = e .before .if1 .left in
     let k = e .if2 .left in (

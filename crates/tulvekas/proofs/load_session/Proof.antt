@@ -3,7 +3,7 @@ use mathlib.Core.Path.{_∙_}
 use native.Mathlib.Omega.{arith}
 use lib.ListN.{getD}
 use denote.Ref.{now}
-use Rattle.tulvekas.specs.SessionBytes.{sealing-at}
+use Rattle.tulvekas.specs.SessionBytes.{session-in}
 use borrow.Author.Needs.{needs}
 use Rattle.tulvekas.proofs.load_session.Statement.{statement}
 use Rattle.tulvekas.proofs.load_session.Tie as tie
@@ -12,7 +12,7 @@ load-requires-5 : tie.Need-load-requires-5
 load-requires-5 c κs = let n = c .before .before .before .before .before .before .before .before .before .before .before .pre in omega arith
 
 returns : tie.Need-returns
-unfolding sealing-at
+unfolding session-in
 returns c =
     let l5 = c .before in
     let f4 = l5 .before in

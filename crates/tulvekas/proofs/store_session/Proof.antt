@@ -2,33 +2,24 @@
 use Prim.Native.Nat.{ℕ}
 use lib.ListN.{getD}
 use denote.Ref.{now}
-use mir.Syntax.{w8, w16, w64}
+use mir.Syntax.{w8, w64}
 use mir.Val.{Fits}
 use Rattle.words.proofs.Blocks.{bytesOf-block}
 use Rattle.ghash.proofs.Elements.{element-block}
-use Rattle.cipher.specs.Registers.{Good}
+use Rattle.cipher.specs.Registers.{IsRegisters}
 use Rattle.cipher.specs.Machine.{registersOf}
-use Rattle.cipher.proofs.Typed.{good-of}
-use Rattle.session.specs.Machine.{sealingOf}
+use Rattle.cipher.proofs.Typed.{every-state}
+use Rattle.session.specs.Machine.{sessionOf}
 use Rattle.tulvekas.specs.SessionBytes.{Sized}
 use Rattle.tulvekas.proofs.SessionLaws.{session-stored}
 use borrow.Author.Needs.{needs}
 use Rattle.tulvekas.proofs.store_session.Statement.{statement}
 use Rattle.tulvekas.proofs.store_session.Tie as tie
 
-good : (c : tie.Start) → Good (registersOf (c .args .s .state))
-good c =
-    -- what the type of the state says, which stands too deep for `search`
-    let g = c .good .1 .0 .1 .1 .1 .1 .1 .1 .1 .1 .1 .0 in
-    let s = c .args .s .state in
-    let fa : (i : ℕ) → Fits w16 (getD (s .lfsr .a) i 0) = λ i. search (needs, g) in
-    let fb : (i : ℕ) → Fits w16 (getD (s .lfsr .b) i 0) = λ i. search (needs, g) in
-    good-of s (record {
-      in-a = record { long = search (needs, g); below = λ i. fa i .fits };
-      in-b = record { long = search (needs, g); below = λ i. fb i .fits };
-    })
+good : (c : tie.Start) → IsRegisters (registersOf (c .args .s .state))
+good c = every-state (c .args .s .state) _ (c .good .1 .0 .1 .1 .1 .1 .1 .1 .1 .1 .1 .0)
 
-sized : (c : tie.Start) → Sized (sealingOf (c .args .s))
+sized : (c : tie.Start) → Sized (sessionOf (c .args .s))
 sized c =
     let s = c .args .s in
     let phase : Fits w8 (s .phase) = search needs in
@@ -56,7 +47,7 @@ returns c =
     let p2 = p3 .before .before .before .before in
     let p1 = p2 .before .before .before .before in
     let a = p1 .before .before .before .before .before .before .before .before .before in
-    session-stored (sealingOf (a .args .s)) (sized a) (now (a .args .out)) (a .pre)
+    session-stored (sessionOf (a .args .s)) (sized a) (now (a .args .out)) (a .pre)
     (p1 .put .ensures) (p2 .put2 .ensures) (p3 .put3 .ensures) (p4 .put-state .ensures) (p5 .put-drawn .ensures) (p6 .put-held .ensures)
 
 pub store-session-spec : {M : Type 1} → statement M

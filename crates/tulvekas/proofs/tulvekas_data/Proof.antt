@@ -1,9 +1,9 @@
 -- `tulvekas::tulvekas_data` meets its contract, by the session's length and the answer of the call below.
 use mathlib.Core.Path.{sym, _∙_}
 use denote.Ref.{now}
-use Rattle.session.specs.Sealing.{Sealing}
+use Rattle.session.specs.Session.{Session}
 use Rattle.session.specs.Calls.{Given, data-call}
-use Rattle.tulvekas.specs.SessionBytes.{sealing-at}
+use Rattle.tulvekas.specs.SessionBytes.{session-in}
 use Rattle.tulvekas.specs.Sessions.{data-answer}
 use Rattle.tulvekas.proofs.Answering.{never, leaves-all, leaves-stored, torn}
 use Rattle.tulvekas.proofs.SessionAnswers.{below-number, below-session}
@@ -15,7 +15,7 @@ returns : tie.Need-returns
 unfolding data-answer
 returns c =
     let a = c .before .before .before .args in
-    let g = data-call (sealing-at (now (a .session))) (now (a .piece)) in
+    let g = data-call (session-in (now (a .session))) (now (a .piece)) in
     let e = torn (now (a .session)) (g .number) (c .if1 .taken) in
     (e, leaves-all e (g .session) (now (a .session)) (never 7))
 
@@ -27,9 +27,9 @@ returns-2 c =
     let x = l .before .before in
     let a = x .before .before .before .args in
     let s = now (a .session) in
-    let f : Sealing → Given = λ v. data-call v (now (a .piece)) in
+    let f : Session → Given = λ v. data-call v (now (a .piece)) in
     let e = d .«data» .ensures .number ∙ below-number s (x .if1 .left) (l .load-session .ensures) f in
-    (e, leaves-all e (f (sealing-at s) .session) s (c .if2 .taken))
+    (e, leaves-all e (f (session-in s) .session) s (c .if2 .taken))
 
 returns-3 : tie.Need-returns-3
 unfolding data-answer
@@ -42,9 +42,9 @@ returns-3 c =
     let a = x .before .before .before .args in
     let s = now (a .session) in
     let u = l .load-session .ensures in
-    let f : Sealing → Given = λ v. data-call v (now (a .piece)) in
+    let f : Session → Given = λ v. data-call v (now (a .piece)) in
     let e = sym (y .if2 .left) ∙ d .«data» .ensures .number ∙ below-number s (x .if1 .left) u f in
-    (e, leaves-stored e _ (f (sealing-at s) .session) s _ (d .«data» .ensures .session ∙ below-session s (x .if1 .left) u f) (st .store-session .ensures))
+    (e, leaves-stored e _ (f (session-in s) .session) s _ (d .«data» .ensures .session ∙ below-session s (x .if1 .left) u f) (st .store-session .ensures))
 
 pub tulvekas-data-spec : {M : Type 1} → statement M
 tulvekas-data-spec =

@@ -4,10 +4,10 @@ use mathlib.Core.Path.{ap, _∙_}
 use mathlib.Core.List.{List, _++_}
 use lib.ListN.{drop}
 use denote.Ref.{now}
-use Rattle.session.specs.Sealing.{Sealing}
+use Rattle.session.specs.Session.{Session}
 use Rattle.session.specs.Calls.{finish-call}
 use Rattle.tulvekas.specs.Order.{next, room}
-use Rattle.tulvekas.specs.SessionBytes.{sealing-at}
+use Rattle.tulvekas.specs.SessionBytes.{session-in}
 use Rattle.tulvekas.specs.Sessions.{finish-answer}
 use Rattle.tulvekas.proofs.Answering.{never, unwritten, accepted, leaves-all, leaves-stored, torn}
 use Rattle.tulvekas.proofs.SessionAnswers.{finish-ended, finish-short, finish-right}
@@ -19,7 +19,7 @@ returns : tie.Need-returns
 unfolding finish-answer
 returns c =
     let a = c .before .before .before .args in
-    let g = finish-call (sealing-at (now (a .session))) in
+    let g = finish-call (session-in (now (a .session))) in
     let e = torn (now (a .session)) (next (g .number) (room 16 (now (a .tag)) 0)) (c .if1 .taken) in
     (e, (leaves-all e (g .session) (now (a .session)) (never 7), unwritten e 16 (g .out) (now (a .tag)) (never 7)))
 
@@ -28,7 +28,7 @@ returns-2 c =
     let l = c .before .before in
     let x = l .before .before in
     let a = x .before .before .before .args in
-    let g = finish-call (sealing-at (now (a .session))) in
+    let g = finish-call (session-in (now (a .session))) in
     let e = finish-ended (now (a .session)) (x .if1 .left) (l .load-session .ensures) (now (a .tag)) (c .if2 .taken) in
     (e, (leaves-all e (g .session) (now (a .session)) (never 6), unwritten e 16 (g .out) (now (a .tag)) (never 6)))
 
@@ -37,7 +37,7 @@ returns-3 c =
     let l = c .before .before .before in
     let x = l .before .before in
     let a = x .before .before .before .args in
-    let g = finish-call (sealing-at (now (a .session))) in
+    let g = finish-call (session-in (now (a .session))) in
     let e = finish-short (now (a .session)) (x .if1 .left) (l .load-session .ensures) (now (a .tag)) (c .before .if2 .left) (c .if3 .taken) in
     (e, (leaves-all e (g .session) (now (a .session)) (never 3), unwritten e 16 (g .out) (now (a .tag)) (never 3)))
 
@@ -52,13 +52,13 @@ returns-4 c =
     let a = x .before .before .before .args in
     let s = now (a .session) in
     let tag = now (a .tag) in
-    let g = finish-call (sealing-at s) in
+    let g = finish-call (session-in s) in
     let u = l .load-session .ensures in
     let e = finish-right s (x .if1 .left) u tag (y .before .if2 .left) (y .if3 .left) in
-    let t = f .finish .ensures .tag ∙ ap (λ (v : Sealing). finish-call v .out) u in (
+    let t = f .finish .ensures .tag ∙ ap (λ (v : Session). finish-call v .out) u in (
       e,
       (
-        leaves-stored e _ (g .session) s _ (f .finish .ensures .session ∙ ap (λ (v : Sealing). finish-call v .session) u) (st .store-session .ensures),
+        leaves-stored e _ (g .session) s _ (f .finish .ensures .session ∙ ap (λ (v : Session). finish-call v .session) u) (st .store-session .ensures),
         p .put-block .ensures ∙ ap (λ (v : List ℕ). v ++ drop 16 tag) t ∙ accepted e (g .out ++ drop 16 tag) tag,
       ),
     )

@@ -2,7 +2,7 @@
 use mathlib.Core.Path.{sym, ap, _∙_}
 use mathlib.Core.Bool.{true, false}
 use denote.Ref.{now}
-use Rattle.retention.specs.Machine.{answerOf}
+use Rattle.retention.specs.Machine.{verdictOf}
 use Rattle.tulvekas.proofs.KeptAnswers.{kept-refused, kept-decided}
 use borrow.Author.Needs.{needs}
 use Rattle.tulvekas.proofs.tulvekas_kept.Statement.{statement}
@@ -12,21 +12,21 @@ returns : tie.Need-returns
 returns c =
     let x = c .before .v .given in
     let k = c .before .before .before in
-    kept-refused (now (k .before .before .args .kept)) (x .0 .0) (sym (k .kept .ensures) ∙ ap answerOf (x .1))
+    kept-refused (now (k .before .before .args .kept)) (x .0 .0) (sym (k .kept .ensures) ∙ ap verdictOf (x .1))
 
 returns-2 : tie.Need-returns-2
 returns-2 c =
     let p = c .before .before in
     let t = p .before .before in
     let k = t .before .before in
-    kept-decided (now (k .before .before .args .kept)) true (sym (k .kept .ensures) ∙ ap answerOf (t .enum-told .given .1)) (p .put-byte .ensures .0) (p .put-byte .ensures .1)
+    kept-decided (now (k .before .before .args .kept)) true (sym (k .kept .ensures) ∙ ap verdictOf (t .enum-told .given .1)) (p .put-byte .ensures .0) (p .put-byte .ensures .1)
 
 returns-3 : tie.Need-returns-3
 returns-3 c =
     let p = c .before .before in
     let t = p .before .before in
     let k = t .before .before in
-    kept-decided (now (k .before .before .args .kept)) false (sym (k .kept .ensures) ∙ ap answerOf (t .enum-told2 .given .1)) (p .put-byte2 .ensures .0) (p .put-byte2 .ensures .1)
+    kept-decided (now (k .before .before .args .kept)) false (sym (k .kept .ensures) ∙ ap verdictOf (t .enum-told2 .given .1)) (p .put-byte2 .ensures .0) (p .put-byte2 .ensures .1)
 
 pub tulvekas-kept-spec : {M : Type 1} → statement M
 tulvekas-kept-spec =

@@ -1,15 +1,13 @@
 -- `tulvekas::tulvekas_keystream` meets its contract, by the lengths and the count: a run of as many whole blocks as fit is not refused for room.
-use Prim.Native.Nat.{ℕ, _*_}
+use Prim.Native.Nat.{_*_}
 use mathlib.Core.Path.{_≡_, sym, ap, _∙_}
 use mathlib.Core.List.{_++_}
-use lib.ListN.{getD, drop}
+use lib.ListN.{drop}
 use denote.Ref.{now}
-use mir.Syntax.{w16}
-use mir.Val.{Fits}
-use Rattle.cipher.specs.Registers.{Registers, Good}
+use Rattle.cipher.specs.Registers.{Registers, IsRegisters}
 use Rattle.cipher.specs.Run.{forward, blocks}
 use Rattle.cipher.specs.Machine.{registersOf}
-use Rattle.cipher.proofs.Typed.{good-of}
+use Rattle.cipher.proofs.Typed.{every-state}
 use Rattle.start.specs.Start.{start}
 use Rattle.tulvekas.specs.Cipher.{mode-of, fitting}
 use Rattle.tulvekas.proofs.Answering.{never, unwritten, accepted}
@@ -18,15 +16,8 @@ use borrow.Author.Needs.{needs}
 use Rattle.tulvekas.proofs.tulvekas_keystream.Statement.{statement}
 use Rattle.tulvekas.proofs.tulvekas_keystream.Tie as tie
 
-good : (c : tie.After-start) → Good (registersOf (c .start .result .state))
-good c =
-    let s = c .start .result .state in
-    let fa : (i : ℕ) → Fits w16 (getD (s .lfsr .a) i 0) = λ i. search needs in
-    let fb : (i : ℕ) → Fits w16 (getD (s .lfsr .b) i 0) = λ i. search needs in
-    good-of s (record {
-      in-a = record { long = search needs; below = λ i. fa i .fits };
-      in-b = record { long = search needs; below = λ i. fb i .fits };
-    })
+good : (c : tie.After-start) → IsRegisters (registersOf (c .start .result .state))
+good c = every-state (c .start .result .state) _ (c .start .ok .1 .1 .1 .0)
 
 returns : tie.Need-returns
 returns c =

@@ -1,9 +1,9 @@
 -- `tulvekas::tulvekas_text` meets its contract, by the session's length and the answer of the call below.
 use mathlib.Core.Path.{sym, _∙_}
 use denote.Ref.{now}
-use Rattle.session.specs.Sealing.{Sealing}
+use Rattle.session.specs.Session.{Session}
 use Rattle.session.specs.Calls.{Given, text-call}
-use Rattle.tulvekas.specs.SessionBytes.{sealing-at}
+use Rattle.tulvekas.specs.SessionBytes.{session-in}
 use Rattle.tulvekas.specs.Sessions.{text-answer}
 use Rattle.tulvekas.proofs.Answering.{never, refused, leaves-all, leaves-stored, torn}
 use Rattle.tulvekas.proofs.SessionAnswers.{text-again, below-number, below-session, below-out}
@@ -17,7 +17,7 @@ returns c =
     let a = c .before .before .before .before .args in
     let s = now (a .session) in
     let out = now (a .out) in
-    let g = text-call (sealing-at s) (now (a .piece)) out in
+    let g = text-call (session-in s) (now (a .piece)) out in
     let e = torn s (g .number) (c .if1 .taken) in
     (e, (leaves-all e (g .session) s (never 7), refused e (g .out) out (never 7)))
 
@@ -31,12 +31,12 @@ returns-2 c =
     let s = now (a .session) in
     let out = now (a .out) in
     let u = l .load-session .ensures in
-    let f : Sealing → Given = λ v. text-call v (now (a .piece)) out in
+    let f : Session → Given = λ v. text-call v (now (a .piece)) out in
     let e = t .text .ensures .0 .number ∙ below-number s (x .if1 .left) u f in (
       e,
       (
-        leaves-all e (f (sealing-at s) .session) s (c .if2 .taken),
-        t .text .ensures .1 ∙ below-out s (x .if1 .left) u f out (text-again (sealing-at s) (now (a .piece)) out),
+        leaves-all e (f (session-in s) .session) s (c .if2 .taken),
+        t .text .ensures .1 ∙ below-out s (x .if1 .left) u f out (text-again (session-in s) (now (a .piece)) out),
       ),
     )
 
@@ -52,12 +52,12 @@ returns-3 c =
     let s = now (a .session) in
     let out = now (a .out) in
     let u = l .load-session .ensures in
-    let f : Sealing → Given = λ v. text-call v (now (a .piece)) out in
+    let f : Session → Given = λ v. text-call v (now (a .piece)) out in
     let e = sym (y .if2 .left) ∙ t .text .ensures .0 .number ∙ below-number s (x .if1 .left) u f in (
       e,
       (
-        leaves-stored e _ (f (sealing-at s) .session) s _ (t .text .ensures .0 .session ∙ below-session s (x .if1 .left) u f) (st .store-session .ensures),
-        t .text .ensures .1 ∙ below-out s (x .if1 .left) u f out (text-again (sealing-at s) (now (a .piece)) out),
+        leaves-stored e _ (f (session-in s) .session) s _ (t .text .ensures .0 .session ∙ below-session s (x .if1 .left) u f) (st .store-session .ensures),
+        t .text .ensures .1 ∙ below-out s (x .if1 .left) u f out (text-again (session-in s) (now (a .piece)) out),
       ),
     )
 

@@ -6,37 +6,37 @@ use lib.Seq.{take-all}
 use denote.Ref.{now}
 use Rattle.cipher.specs.Registers.{Registers}
 use Rattle.start.specs.Trace.{trace}
-use Rattle.start.specs.Machine.{answerOf}
+use Rattle.start.specs.Machine.{modeOf, tracedOf}
 use Rattle.layout.specs.Block.{registers-at}
-use Rattle.tulvekas.specs.Cipher.{traced, mode-byte}
+use Rattle.tulvekas.specs.Cipher.{trace-of-bytes, mode-byte}
 use Rattle.tulvekas.proofs.Answering.{set-first, put-iv}
-use Rattle.tulvekas.proofs.CipherAnswers.{traced-bad-key, traced-bad-state, traced-walks, told-refused, told-short-iv, told-short-sealed, told-found}
+use Rattle.tulvekas.proofs.CipherAnswers.{trace-bad-key, trace-bad-state, trace-walks, told-refused, told-short-iv, told-short-sealed, told-found}
 use borrow.Author.Needs.{needs}
 use Rattle.tulvekas.proofs.tulvekas_trace.Statement.{statement}
 use Rattle.tulvekas.proofs.tulvekas_trace.Tie as tie
 
 -- the answer of the trace, of the state that the bytes list
 walked : (c : tie.After-trace)
-    → let a = c .before .before .before .before .before .before .before .before .args in answerOf (c .trace .result) ≡ traced (now (a .state)) (now (a .key)) (a .count)
+    → let a = c .before .before .before .before .before .before .before .before .args in tracedOf (c .trace .result) ≡ trace-of-bytes (now (a .state)) (now (a .key)) (a .count)
 walked c =
     let g = c .before in
     let x = g .before in
     let a = x .before .before .before .before .before .before .args in
     let s = now (a .state) in
     let n = x .if2 .left in
-    c .trace .ensures
+    c .trace .ensures .1
     ∙ ap (λ (r : Registers). trace r (now (a .key)) (a .count)) (g .get-state .ensures ∙ ap registers-at (take-all 112 s (omega arith)))
-    ∙ traced-walks s (now (a .key)) (a .count) (x .before .if1 .left) n
+    ∙ trace-walks s (now (a .key)) (a .count) (x .before .if1 .left) n
 
 returns : tie.Need-returns
 returns c =
     let a = c .before .before .before .before .before .args in
-    told-refused (now (a .iv)) (now (a .sealed)) 1 (sym (traced-bad-key (now (a .state)) (now (a .key)) (a .count) (c .if1 .taken)))
+    told-refused (now (a .iv)) (now (a .sealed)) 1 (sym (trace-bad-key (now (a .state)) (now (a .key)) (a .count) (c .if1 .taken)))
 
 returns-2 : tie.Need-returns-2
 returns-2 c =
     let a = c .before .before .before .before .before .before .args in
-    told-refused (now (a .iv)) (now (a .sealed)) 8 (sym (traced-bad-state (now (a .state)) (now (a .key)) (a .count) (c .before .if1 .left) (c .if2 .taken)))
+    told-refused (now (a .iv)) (now (a .sealed)) 8 (sym (trace-bad-state (now (a .state)) (now (a .key)) (a .count) (c .before .if1 .left) (c .if2 .taken)))
 
 returns-3 : tie.Need-returns-3
 returns-3 c =
@@ -44,7 +44,7 @@ returns-3 c =
     let x = o .t2 .given in
     let t = o .before .before in
     let a = t .before .before .before .before .before .before .before .before .args in
-    told-short-iv (now (a .iv)) (now (a .sealed)) _ _ (sym (walked t) ∙ ap answerOf (x .1)) (c .if3 .taken)
+    told-short-iv (now (a .iv)) (now (a .sealed)) _ _ (sym (walked t) ∙ ap tracedOf (x .1)) (c .if3 .taken)
 
 returns-4 : tie.Need-returns-4
 returns-4 c =
@@ -52,7 +52,7 @@ returns-4 c =
     let x = o .t2 .given in
     let t = o .before .before in
     let a = t .before .before .before .before .before .before .before .before .args in
-    told-short-sealed (now (a .iv)) (now (a .sealed)) _ _ (sym (walked t) ∙ ap answerOf (x .1)) (c .before .if3 .left) (c .if4 .taken)
+    told-short-sealed (now (a .iv)) (now (a .sealed)) _ _ (sym (walked t) ∙ ap tracedOf (x .1)) (c .before .if3 .left) (c .if4 .taken)
 
 returns-5 : tie.Need-returns-5
 returns-5 c =
@@ -60,7 +60,7 @@ returns-5 c =
     let x = o .t .given in
     let t = o .before .before in
     let a = t .before .before .before .before .before .before .before .before .args in
-    told-refused (now (a .iv)) (now (a .sealed)) _ (sym (walked t) ∙ ap answerOf (x .1))
+    told-refused (now (a .iv)) (now (a .sealed)) _ (sym (walked t) ∙ ap tracedOf (x .1))
 
 returns-6 : tie.Need-returns-6
 returns-6 c =
@@ -71,8 +71,8 @@ returns-6 c =
     let x = o .t2 .given in
     let t = o .before .before in
     let a = t .before .before .before .before .before .before .before .before .args in
-    let b = mode-byte (x .0 .0 .mode) in
-    told-found (now (a .iv)) (now (a .sealed)) _ _ (sym (walked t) ∙ ap answerOf (x .1)) (y .before .if3 .left) (y .if4 .left)
+    let b = mode-byte (modeOf (x .0 .0 .mode)) in
+    told-found (now (a .iv)) (now (a .sealed)) _ _ (sym (walked t) ∙ ap tracedOf (x .1)) (y .before .if3 .left) (y .if4 .left)
     (put-iv (now (a .iv)) _ _ (y .before .if3 .left) (p1 .put .ensures) (p2 .put2 .ensures))
     (ap (set (now (a .sealed)) 0) (c .mode-number .ensures) ∙ set-first (now (a .sealed)) b (y .if4 .left))
 

@@ -1,9 +1,9 @@
--- `kept::put_cells` meets its contract: the bytes of a register are those of its halves.
+-- `suspended::put_cells` meets its contract: the bytes of a register are those of its halves.
 use denote.Ref.{now}
 use borrow.Author.Needs.{needs}
-use Rattle.kept.proofs.Placing.{put-halves}
-use Rattle.kept.proofs.put_cells.Statement.{statement}
-use Rattle.kept.proofs.put_cells.Tie as tie
+use Rattle.suspended.proofs.Placing.{put-halves}
+use Rattle.suspended.proofs.put_cells.Statement.{statement}
+use Rattle.suspended.proofs.put_cells.Tie as tie
 
 returns : tie.Need-returns
 returns c =

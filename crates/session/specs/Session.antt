@@ -4,7 +4,7 @@ use mathlib.Core.List.{List}
 use Rattle.cipher.specs.Registers.{Registers}
 use Rattle.digest.specs.Digest.{Sum}
 
-pub record Sealing : Type 0 where
+pub record Session : Type 0 where
   -- 0 data, 1 text, 2 finished
   pub phase : ℕ
   -- bytes of associated data and of text so far

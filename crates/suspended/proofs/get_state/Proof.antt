@@ -1,9 +1,9 @@
--- `kept::get_state` meets its contract: each field is read at its place.
+-- `suspended::get_state` meets its contract: each field is read at its place.
 use denote.Ref.{now}
 use borrow.Author.Needs.{needs}
-use Rattle.kept.proofs.Placing.{get-registers}
-use Rattle.kept.proofs.get_state.Statement.{statement}
-use Rattle.kept.proofs.get_state.Tie as tie
+use Rattle.suspended.proofs.Placing.{get-registers}
+use Rattle.suspended.proofs.get_state.Statement.{statement}
+use Rattle.suspended.proofs.get_state.Tie as tie
 
 returns : tie.Need-returns
 returns c =

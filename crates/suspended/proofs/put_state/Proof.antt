@@ -1,11 +1,11 @@
--- `kept::put_state` meets its contract: the fields are written one behind the other.
+-- `suspended::put_state` meets its contract: the fields are written one behind the other.
 use mathlib.Core.Path.{_≡_}
 use denote.Ref.{now}
 use borrow.Author.Needs.{needs}
 use lib.ListN.{length}
-use Rattle.kept.proofs.Placing.{put-registers}
-use Rattle.kept.proofs.put_state.Statement.{statement}
-use Rattle.kept.proofs.put_state.Tie as tie
+use Rattle.suspended.proofs.Placing.{put-registers}
+use Rattle.suspended.proofs.put_state.Statement.{statement}
+use Rattle.suspended.proofs.put_state.Tie as tie
 
 long : (c : tie.Start) → (length (c .args .s .lfsr .a) ≡ 16) × (length (c .args .s .lfsr .b) ≡ 16)
 long c = (search needs, search needs)

@@ -1,4 +1,4 @@
--- `kept::block_of` meets its contract: fields are written from the front on, with zeros left between and behind, and the check is that of the
+-- `suspended::block_of` meets its contract: fields are written from the front on, with zeros left between and behind, and the check is that of the
 -- bytes before it.
 use Prim.Native.Nat.{ℕ}
 use mathlib.Core.Path.{_≡_, refl, ap, _∙_}
@@ -17,10 +17,10 @@ use Rattle.fields.specs.Fields.{check}
 use Rattle.fields.proofs.Reading.{check-front}
 use Rattle.cipher.specs.Machine.{registersOf}
 use Rattle.layout.specs.Block.{registers-bytes, body, block-of}
-use Rattle.kept.specs.Machine.{keptOf}
-use Rattle.kept.proofs.Placing.{state-long}
-use Rattle.kept.proofs.block_of.Statement.{statement}
-use Rattle.kept.proofs.block_of.Tie as tie
+use Rattle.suspended.specs.Machine.{suspendedOf}
+use Rattle.suspended.proofs.Placing.{state-long}
+use Rattle.suspended.proofs.block_of.Statement.{statement}
+use Rattle.suspended.proofs.block_of.Tie as tie
 
 -- the arrays' lengths, asked where little else stands in scope
 long : (c : tie.Start)
@@ -55,11 +55,11 @@ returns c =
     let f128 = front-put f16 (registers-bytes (registersOf (f .state))) 112 _ (state-long (f .state) (long s .0) (long s .1)) (lit≤ tt) (ps .put-state .ensures) in
     let f144 = front-put f128 (bytesOf (tb .to-block .result)) 16 _ (bytesOf-block (tb .to-block .result) .long) (lit≤ tt) (s1 .store .ensures) in
     let f160 = front-put f144 (bytesOf (ld .load .result)) 16 _ (bytesOf-block (ld .load .result) .long) (lit≤ tt) (s2 .store2 .ensures) in
-    let f508 : Front 512 (body (keptOf f)) 508 (s2 .store2 .last .0) = rw (hash, rest) at (front-skip f160 348 (lit≤ tt)) in
-    let e : k .check .result ≡ check (body (keptOf f)) =
-    k .check .ensures ∙ ap check (f508 .is) ∙ check-front (body (keptOf f)) (replicate 4 0) (f508 .long) in
+    let f508 : Front 512 (body (suspendedOf f)) 508 (s2 .store2 .last .0) = rw (hash, rest) at (front-skip f160 348 (lit≤ tt)) in
+    let e : k .check .result ≡ check (body (suspendedOf f)) =
+    k .check .ensures ∙ ap check (f508 .is) ∙ check-front (body (suspendedOf f)) (replicate 4 0) (f508 .long) in
     let f512 = front-put f508 (little 4 (k .check .result)) 4 _ (little-long 4 (k .check .result)) (lit≤ tt) (p3 .put3 .ensures) in
-    f512 .is ∙ append-nil _ ∙ ap (λ (n : ℕ). body (keptOf f) ++ little 4 n) e
+    f512 .is ∙ append-nil _ ∙ ap (λ (n : ℕ). body (suspendedOf f) ++ little 4 n) e
 
 pub block-of-spec : {M : Type 1} → statement M
 block-of-spec =

@@ -1,15 +1,15 @@
--- `tulvekas::tulvekas_take_up` meets its contract, by the answer of the call below and the two lengths.
+-- `tulvekas::tulvekas_resume` meets its contract, by the answer of the call below and the two lengths.
 use Prim.Native.Nat.{ℕ}
 use mathlib.Core.Path.{ap, _∙_}
 use mathlib.Core.List.{List, _++_}
 use lib.ListN.{drop}
 use denote.Ref.{now}
-use Rattle.suspend.specs.Calls.{resume-call}
+use Rattle.suspend.specs.Calls.{Resumed, resume-call}
 use Rattle.tulvekas.proofs.Answering.{never, unwritten, accepted, leaves-all, leaves-stored}
-use Rattle.tulvekas.proofs.SessionAnswers.{take-up-refused, take-up-short, take-up-short-iv, take-up-right}
+use Rattle.tulvekas.proofs.SessionAnswers.{resume-refused, resume-short, resume-short-iv, resume-right}
 use borrow.Author.Needs.{needs}
-use Rattle.tulvekas.proofs.tulvekas_take_up.Statement.{statement}
-use Rattle.tulvekas.proofs.tulvekas_take_up.Tie as tie
+use Rattle.tulvekas.proofs.tulvekas_resume.Statement.{statement}
+use Rattle.tulvekas.proofs.tulvekas_resume.Tie as tie
 
 returns : tie.Need-returns
 returns c =
@@ -18,8 +18,8 @@ returns c =
     let g = resume-call (now (a .key)) (now (a .block)) in
     let s = now (a .session) in
     let iv = now (a .iv) in
-    let n = r .resume .ensures .number in
-    let e = take-up-refused (now (a .key)) (now (a .block)) s iv n (c .if1 .taken) in
+    let n = ap (λ (x : Resumed). x .number) (r .resume .ensures .1) in
+    let e = resume-refused (now (a .key)) (now (a .block)) s iv n (c .if1 .taken) in
     (e, (leaves-all e (g .session) s (c .if1 .taken), unwritten e 16 (g .iv) iv (c .if1 .taken)))
 
 returns-2 : tie.Need-returns-2
@@ -29,8 +29,8 @@ returns-2 c =
     let g = resume-call (now (a .key)) (now (a .block)) in
     let s = now (a .session) in
     let iv = now (a .iv) in
-    let n = r .resume .ensures .number in
-    let e = take-up-short (now (a .key)) (now (a .block)) s iv n (c .before .if1 .left) (c .if2 .taken) in
+    let n = ap (λ (x : Resumed). x .number) (r .resume .ensures .1) in
+    let e = resume-short (now (a .key)) (now (a .block)) s iv n (c .before .if1 .left) (c .if2 .taken) in
     (e, (leaves-all e (g .session) s (never 3), unwritten e 16 (g .iv) iv (never 3)))
 
 returns-3 : tie.Need-returns-3
@@ -40,8 +40,8 @@ returns-3 c =
     let g = resume-call (now (a .key)) (now (a .block)) in
     let s = now (a .session) in
     let iv = now (a .iv) in
-    let n = r .resume .ensures .number in
-    let e = take-up-short-iv (now (a .key)) (now (a .block)) s iv n (c .before .before .if1 .left) (c .before .if2 .left) (c .if3 .taken) in
+    let n = ap (λ (x : Resumed). x .number) (r .resume .ensures .1) in
+    let e = resume-short-iv (now (a .key)) (now (a .block)) s iv n (c .before .before .if1 .left) (c .before .if2 .left) (c .if3 .taken) in
     (e, (leaves-all e (g .session) s (never 3), unwritten e 16 (g .iv) iv (never 3)))
 
 returns-4 : tie.Need-returns-4
@@ -54,17 +54,17 @@ returns-4 c =
     let g = resume-call (now (a .key)) (now (a .block)) in
     let s = now (a .session) in
     let iv = now (a .iv) in
-    let n = r .resume .ensures .number in
-    let e = take-up-right (now (a .key)) (now (a .block)) s iv n (x .before .before .if1 .left) (x .before .if2 .left) (x .if3 .left) in (
+    let n = ap (λ (x : Resumed). x .number) (r .resume .ensures .1) in
+    let e = resume-right (now (a .key)) (now (a .block)) s iv n (x .before .before .if1 .left) (x .before .if2 .left) (x .if3 .left) in (
       e,
       (
-        leaves-stored e _ (g .session) s _ (r .resume .ensures .session) (st .store-session .ensures),
-        p .put-block .ensures ∙ ap (λ (v : List ℕ). v ++ drop 16 iv) (r .resume .ensures .iv) ∙ accepted e (g .iv ++ drop 16 iv) iv,
+        leaves-stored e _ (g .session) s _ (ap (λ (x : Resumed). x .session) (r .resume .ensures .1)) (st .store-session .ensures),
+        p .put-block .ensures ∙ ap (λ (v : List ℕ). v ++ drop 16 iv) (ap (λ (x : Resumed). x .iv) (r .resume .ensures .1)) ∙ accepted e (g .iv ++ drop 16 iv) iv,
       ),
     )
 
-pub tulvekas-take-up-spec : {M : Type 1} → statement M
-tulvekas-take-up-spec =
+pub tulvekas-resume-spec : {M : Type 1} → statement M
+tulvekas-resume-spec =
     tie.close
     (tie.spec
     (λ c κs. search needs)

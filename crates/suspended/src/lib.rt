@@ -7,13 +7,13 @@ ghost use Rattle.words.specs.Bytes.{littles, part};
 ghost use Rattle.cipher.specs.Machine.{registersOf};
 ghost use Rattle.layout.specs.Block;
 ghost use Rattle.layout.specs.Block.{registers-bytes, registers-at, block-of};
-ghost use Rattle.kept.specs.Machine.{keptOf};
+ghost use Rattle.suspended.specs.Machine.{suspendedOf};
 use cipher::State;
 use digest::Held;
 use lfsr::Lfsr;
 
 // What a block keeps of a session.
-pub struct Fields {
+pub struct Suspended {
     pub phase: u8,
     pub ad: u64,
     pub text: u64,
@@ -68,8 +68,8 @@ pub fn get_state(s: &[u8], at: usize) -> State
 }
 
 // The block: zeros, then the fields, then the check.
-pub fn block_of(f: Fields) -> [u8; 512]
-    ensures { λ r. ⌜ r ≡ block-of (keptOf f) ⌝ }
+pub fn block_of(f: Suspended) -> [u8; 512]
+    ensures { λ r. ⌜ r ≡ block-of (suspendedOf f) ⌝ }
 {
     let held = f.held;
     let acc = held.acc;
@@ -90,9 +90,9 @@ pub fn block_of(f: Fields) -> [u8; 512]
 }
 
 // What a block says, with no rule tested.
-pub fn read(block: &[u8]) -> Fields
+pub fn read(block: &[u8]) -> Suspended
     requires { ⌜ length (now block) ≡ 512 ⌝ }
-    ensures { λ r. ⌜ keptOf r ≡ Block.read (now (block .entry)) ⌝ }
+    ensures { λ r. ⌜ suspendedOf r ≡ Block.read (now (block .entry)) ⌝ }
 {
     let phase = block[0];
     let ad = fields::get(block, 4, 4);
@@ -104,7 +104,7 @@ pub fn read(block: &[u8]) -> Fields
         acc: acc,
         pending: pending,
     };
-    Fields {
+    Suspended {
         phase: phase,
         ad: ad,
         text: text,

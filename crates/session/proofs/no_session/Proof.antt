@@ -1,9 +1,9 @@
--- `session::nobody` meets its contract.
+-- `session::no_session` meets its contract.
 use mathlib.Core.Path.{ap, _∙_}
 use Rattle.digest.specs.Digest.{fresh}
 use borrow.Author.Needs.{needs}
-use Rattle.session.proofs.nobody.Statement.{statement}
-use Rattle.session.proofs.nobody.Tie as tie
+use Rattle.session.proofs.no_session.Statement.{statement}
+use Rattle.session.proofs.no_session.Tie as tie
 
 returns : tie.Need-returns
 returns c =
@@ -20,5 +20,5 @@ returns c =
       sum = (c .fresh .ensures ∙ ap fresh n) i;
     }
 
-pub nobody-spec : {M : Type 1} → statement M
-nobody-spec = tie.close (tie.spec (λ c κs. search needs) (λ c κs. search needs) (λ c κs. search needs) (λ c κs. search needs) returns)
+pub no-session-spec : {M : Type 1} → statement M
+no-session-spec = tie.close (tie.spec (λ c κs. search needs) (λ c κs. search needs) (λ c κs. search needs) (λ c κs. search needs) returns)

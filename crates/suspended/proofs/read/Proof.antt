@@ -1,11 +1,11 @@
--- `kept::read` meets its contract: each field is read at its place.
+-- `suspended::read` meets its contract: each field is read at its place.
 use mathlib.Core.Path.{_∙_}
 use denote.Ref.{now}
 use borrow.Author.Needs.{needs}
 use lib.ListN.{getD}
 use Rattle.layout.specs.Block.{read}
-use Rattle.kept.proofs.read.Statement.{statement}
-use Rattle.kept.proofs.read.Tie as tie
+use Rattle.suspended.proofs.read.Statement.{statement}
+use Rattle.suspended.proofs.read.Tie as tie
 
 returns : tie.Need-returns
 unfolding read

@@ -1,0 +1,121 @@
+-- Keystream and trace through C are start, run and trace below: a run of as many whole blocks as fit is not refused for room, and of 112 bytes trace
+-- is that of the registers which they list.
+use mathlib.Core.Path.{_≡_, refl, sym, ap, subst, _∙_}
+use mathlib.Core.Bool.{Bool, true, false}
+use mathlib.Core.List.{List, [], _∷_, _++_}
+use Prim.Native.Nat.{ℕ, _*_, _≤_, _<_}
+use native.Mathlib.Omega.{arith}
+use native.Mathlib.Decide.{decLt}
+use borrow.Author.Tests.{eqb-true, eqb-false, lt-ltb, le-ltb}
+use lib.Dec.{eqb, ltb}
+use lib.ListN.{length, drop}
+use Rattle.scope.specs.Limits.{most-blocks}
+use Rattle.scope.specs.Refusals.{granted, refuse, count-too-high}
+use Rattle.cipher.specs.Registers.{Registers, IsRegisters}
+use Rattle.cipher.specs.Run.{forward, blocks, run-number, run-part}
+use Rattle.cipher.proofs.Moves.{blocks-length}
+use Rattle.start.specs.Start.{start, start-number}
+use Rattle.start.specs.Leads.{Traced, Traced.origin, Traced.refused}
+use Rattle.start.specs.Trace.{trace}
+use Rattle.start.proofs.Answers as answers
+use Rattle.start.proofs.Undo.{start-good}
+use Rattle.layout.specs.Block.{registers-at}
+use Rattle.claims.specs.Lists.{Bytes}
+use Rattle.claims.proofs.Within.{row-of}
+use Rattle.claims.proofs.Demands.{start-keyed}
+use Rattle.tulvekas.specs.Order.{next, room}
+use Rattle.tulvekas.specs.Cipher.{mode-of, fitting, keystream-answer, keystream-writes, mode-byte, trace-of-bytes, trace-answer, trace-iv, trace-sealed}
+use Rattle.tulvekas.proofs.Answering.{fits, accepted, below-refuses, below-accepts}
+use Rattle.tulvekas.proofs.CipherAnswers.{trace-bad-key, trace-walks}
+use Rattle.claims_c.specs.ThroughC.{Told, TracesThroughC}
+
+-- ---- keystream
+
+module _ (key iv : Bytes) (mode : ℕ) (out : List ℕ) where
+  n : ℕ
+  n = fitting out
+
+  number : ℕ
+  number = start-number (key .list) (iv .list)
+
+  later : ℕ
+  later = refuse (ltb most-blocks n) count-too-high 0
+
+  -- room for the blocks that fit is always there
+  run-is : run-number (length out) n ≡ later
+  unfolding run-number n later
+  run-is = rw (le-ltb (length out) (16 * fitting out) (omega arith))
+
+  s : Registers
+  s = start (key .list) (iv .list) (mode-of mode)
+
+  all : List ℕ
+  all = blocks forward n s
+
+  drawn : List ℕ
+  drawn = run-part forward s (length out) n
+
+  part-is : drawn ≡ granted later all []
+  unfolding drawn all run-part
+  part-is = ap (λ (i : ℕ). granted i (blocks forward n s) []) run-is
+
+  written : List ℕ → List ℕ
+  written p = p ++ drop (length p) out
+
+  -- with key and IV in order
+  accepted-writes : number ≡ 0 → granted later (all ++ drop (16 * n) out) out ≡ written drawn
+  unfolding written number later s all
+  accepted-writes z = elim (decLt most-blocks n) [ yes q ↦ far q | no q ↦ near (omega arith) ]
+    where
+      far : most-blocks < n → granted later (all ++ drop (16 * n) out) out ≡ written drawn
+      far q =
+          let e : later ≡ 9 = rw (lt-ltb most-blocks n q) in
+          ap (λ (i : ℕ). granted i (all ++ drop (16 * n) out) out) e ∙ ap written (sym (part-is ∙ ap (λ (i : ℕ). granted i all []) e))
+
+      near : n ≤ most-blocks → granted later (all ++ drop (16 * n) out) out ≡ written drawn
+      near q =
+          let e : later ≡ 0 = rw (le-ltb most-blocks n q) in
+          let l = start-keyed key iv z in
+          let g : IsRegisters s = start-good (key .list) (row-of key (l .key-long)) (iv .list) (mode-of mode) (row-of iv (l .iv-long)) in
+          ap (λ (i : ℕ). granted i (all ++ drop (16 * n) out) out) e
+          ∙ ap (λ (i : ℕ). all ++ drop i out) (sym (blocks-length forward n s g))
+          ∙ ap written (sym (part-is ∙ ap (λ (i : ℕ). granted i all []) e))
+
+  writes : granted (next number later) (all ++ drop (16 * n) out) out ≡ granted number (written drawn) out
+  writes = go (eqb number 0) refl
+    where
+      go : (b : Bool) → eqb number 0 ≡ b → granted (next number later) (all ++ drop (16 * n) out) out ≡ granted number (written drawn) out
+      go true e =
+          let z : number ≡ 0 = eqb-true number 0 e in
+          ap (λ (i : ℕ). granted i (all ++ drop (16 * n) out) out) (sym (below-accepts number later (sym z)))
+          ∙ accepted-writes z ∙ ap (λ (i : ℕ). granted i (written drawn) out) (sym z)
+      go false e =
+          ap (λ (i : ℕ). granted i (all ++ drop (16 * n) out) out) (sym (below-refuses number later (eqb-false number 0 e))) ∙ rw e
+
+  pub keystream : let blocks = run-part forward (start (key .list) (iv .list) (mode-of mode)) (length out) (fitting out) in
+      (keystream-answer (key .list) (iv .list) out ≡ next (start-number (key .list) (iv .list)) (run-number (length out) (fitting out)))
+      × (keystream-writes (key .list) (iv .list) mode out ≡ granted (start-number (key .list) (iv .list)) (blocks ++ drop (length blocks) out) out)
+  unfolding keystream-answer n number later s all drawn written
+  keystream = (ap (next number) (sym run-is), writes)
+
+-- ---- trace
+
+module _ (s key : List ℕ) (n : ℕ) (long : length s ≡ 112) where
+  trace-is : trace (registers-at s) key n ≡ trace-of-bytes s key n
+  trace-is = go (eqb (length key) 32) refl
+    where
+      go : (b : Bool) → eqb (length key) 32 ≡ b → trace (registers-at s) key n ≡ trace-of-bytes s key n
+      go true e = trace-walks s key n (eqb-true (length key) 32 e) long
+      go false e = sym (answers.trace-bad-key (registers-at s) key n (eqb-false (length key) 32 e)) ∙ trace-bad-key s key n (eqb-false (length key) 32 e)
+
+  told : (a : Traced) (iv sb : List ℕ) → 16 ≤ length iv → 1 ≤ length sb → Told a iv sb (trace-answer a iv sb) (trace-iv a iv sb) (trace-sealed a iv sb)
+  unfolding trace-answer trace-iv trace-sealed
+  told (origin v m) iv sb h k =
+      let z : 0 ≡ room 16 iv (room 1 sb 0) = fits 1 sb 0 k ∙ fits 16 iv (room 1 sb 0) h in
+      (sym z, (sym (accepted z (v ++ drop 16 iv) iv), sym (accepted z (mode-byte m ∷ drop 1 sb) sb)))
+  told (refused i) iv sb h k = (refl, (refl, refl))
+
+  pub traces : TracesThroughC s key n (trace (registers-at s) key n)
+  traces iv sb h k =
+      subst (λ (a : Traced). Told (trace (registers-at s) key n) iv sb (trace-answer a iv sb) (trace-iv a iv sb) (trace-sealed a iv sb)) trace-is
+      (told (trace (registers-at s) key n) iv sb h k)

@@ -1,0 +1,75 @@
+-- That through C nothing is otherwise, so that the demands hold there as well. proofs/ThroughC.antt proves it.
+use Prim.Native.Nat.{ℕ, _≤_}
+use mathlib.Core.Path.{_≡_}
+use mathlib.Core.List.{List, _∷_, _++_}
+use lib.ListN.{length, take, drop}
+use Rattle.scope.specs.Refusals.{granted}
+use Rattle.words.specs.Bytes.{part}
+use Rattle.cipher.specs.Run.{forward, run-number, run-part}
+use Rattle.start.specs.Start.{Mode.sealed, start, start-number}
+use Rattle.start.specs.Leads.{Traced, Traced.origin, Traced.refused}
+use Rattle.start.specs.Trace.{trace}
+use Rattle.session.specs.Session.{Session, drawn-at}
+use Rattle.session.specs.Calls.{data-call, text-call, finish-call}
+use Rattle.layout.specs.Block.{registers-at}
+use Rattle.suspend.specs.Calls.{suspend-call, resume-call}
+use Rattle.claims.specs.Lists.{Bytes, after}
+use Rattle.claims.specs.Claims.{Keyed}
+use Rattle.tulvekas.specs.Order.{next}
+use Rattle.tulvekas.specs.SessionBytes.{session-bytes, session-in}
+use Rattle.tulvekas.specs.Sessions.{data-answer, text-answer, text-writes, finish-answer, finish-writes, suspend-answer, suspend-writes, resume-answer, resume-writes}
+use Rattle.tulvekas.specs.Cipher.{mode-of, fitting, keystream-answer, keystream-writes, mode-byte, trace-of-bytes, trace-answer, trace-iv, trace-sealed}
+use Rattle.claims_c.specs.Lists.{left, CCall, c-after, below}
+
+-- bytes b on which every call for C answers and writes what the call below does on the session s
+pub record Stands (b : List ℕ) (s : Session) : Type 0 where
+  pub bytes : b ≡ session-bytes s
+  pub lists : session-in b ≡ s
+  pub data-answers : (p : List ℕ) → data-answer b p ≡ data-call s p .number
+  pub text-answers : (p out : List ℕ) → text-answer b p out ≡ text-call s p out .number
+  pub text-output : (p out : List ℕ) → text-writes b p out ≡ text-call s p out .out
+  pub finish-answers : (tag : List ℕ) → 16 ≤ length tag → finish-answer b tag ≡ finish-call s .number
+  pub finish-output : (tag : List ℕ) → 16 ≤ length tag → finish-writes b tag ≡ granted (finish-call s .number) (finish-call s .out ++ drop 16 tag) tag
+  pub suspend-answers : (out : List ℕ) → suspend-answer b out ≡ suspend-call s out .number
+  pub suspend-output : (out : List ℕ) → suspend-writes b out ≡ suspend-call s out .out
+
+-- Suspend of the session b into an output is answered 0. Resume under the key with the 512 bytes that it wrote, into any two buffers with room, is
+-- answered 0, writes the IV, and the very bytes b; what lies behind stays.
+pub record ResumesThroughC (key iv b out session into : List ℕ) : Type 0 where
+  pub suspended : suspend-answer b out ≡ 0
+  pub answered : resume-answer key (take 512 (suspend-writes b out)) session into ≡ 0
+  pub same-bytes :
+      left (resume-answer key (take 512 (suspend-writes b out)) session into) (resume-call key (take 512 (suspend-writes b out)) .session) session
+      ≡ b ++ drop 216 session
+  pub same-iv : resume-writes key (take 512 (suspend-writes b out)) session into ≡ iv ++ drop 16 into
+
+-- what C is told of an answer to trace, in two buffers with room: the number, and what stands in them
+abbrev pub Told : Traced → (iv sealed-byte : List ℕ) → ℕ → (iv′ sealed-byte′ : List ℕ) → Type 0
+Told (origin v m) iv sb n iv′ sb′ = (n ≡ 0) × ((iv′ ≡ v ++ drop 16 iv) × (sb′ ≡ mode-byte m ∷ drop 1 sb))
+Told (refused k) iv sb n iv′ sb′ = (n ≡ k) × ((iv′ ≡ iv) × (sb′ ≡ sb))
+
+-- trace through C from these bytes tells this
+abbrev pub TracesThroughC : (state key : List ℕ) (count : ℕ) → Traced → Type 0
+TracesThroughC s key n a =
+    (iv sb : List ℕ) → 16 ≤ length iv → 1 ≤ length sb
+    → Told a iv sb (trace-answer (trace-of-bytes s key n) iv sb) (trace-iv (trace-of-bytes s key n) iv sb) (trace-sealed (trace-of-bytes s key n) iv sb)
+
+pub record ThroughC : Type 0 where
+  -- Through C every list of calls leaves the bytes of the session that the same list leaves below, whatever stood in them before.
+  pub stands : (key iv : Bytes) → Keyed key iv → (session : List ℕ) → length session ≡ 216 → (cs : List CCall)
+      → Stands (c-after key iv session cs) (after key iv (below cs) .session)
+  -- After every list a session that is suspended and resumed has the very bytes that it had.
+  pub resumed : (key iv : Bytes) → Keyed key iv → (session : List ℕ) → length session ≡ 216 → (cs : List CCall) (out : Bytes) → 512 ≤ length (out .list)
+      → (fresh into : List ℕ) → 216 ≤ length fresh → 16 ≤ length into
+      → ResumesThroughC (key .list) (iv .list) (c-after key iv session cs) (out .list) fresh into
+  -- Keystream answers and writes what start and a run forward of as many whole blocks as fit do.
+  pub keystream : (key iv : Bytes) (mode : ℕ) (out : List ℕ)
+      → let blocks = run-part forward (start (key .list) (iv .list) (mode-of mode)) (length out) (fitting out) in
+      (keystream-answer (key .list) (iv .list) out ≡ next (start-number (key .list) (iv .list)) (run-number (length out) (fitting out)))
+      × (keystream-writes (key .list) (iv .list) mode out ≡ granted (start-number (key .list) (iv .list)) (blocks ++ drop (length blocks) out) out)
+  -- Trace tells what trace below does of the registers that 112 bytes list.
+  pub traces : (state key : List ℕ) (count : ℕ) → length state ≡ 112 → TracesThroughC state key count (trace (registers-at state) key count)
+  -- A state names its stay: after every list, trace from bytes 16 to 127 of what suspend wrote, at the blocks drawn, tells the begin's IV and sealed mode.
+  pub names : (key iv : Bytes) → Keyed key iv → (session : List ℕ) → length session ≡ 216 → (cs : List CCall) (out : Bytes) → 512 ≤ length (out .list)
+      → TracesThroughC (part 16 112 (suspend-writes (c-after key iv session cs) (out .list))) (key .list) (drawn-at (length (after key iv (below cs) .text)))
+      (origin (iv .list) sealed)

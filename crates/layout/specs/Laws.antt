@@ -1,0 +1,16 @@
+-- What is stated of the block beside the contracts. `read-and-written` of proofs/ReadAndWritten.antt proves it.
+use Prim.Native.Nat.{ℕ, _<_}
+use mathlib.Core.Path.{_≡_}
+use mathlib.Core.Bool.{true}
+use mathlib.Core.List.{List}
+use lib.ListN.{getD}
+use Rattle.layout.specs.Block.{Suspended, block-of, read}
+use Rattle.layout.specs.Rules.{well-laid, Fine}
+
+pub record ReadAndWritten : Type 0 where
+  -- A block that is written obeys the rules, and reads back as what it was written for.
+  pub laid : (k : Suspended) → Fine k → well-laid (block-of k) ≡ true
+  pub reads-back : (k : Suspended) → Fine k → read (block-of k) ≡ k
+  -- Bytes that obey the rules are the block of what is read from them, and that is fine to write.
+  pub fine : (b : List ℕ) → ((i : ℕ) → getD b i 0 < 256) → well-laid b ≡ true → Fine (read b)
+  pub only-block : (b : List ℕ) → ((i : ℕ) → getD b i 0 < 256) → well-laid b ≡ true → block-of (read b) ≡ b
