@@ -2,6 +2,7 @@ pub mod Tests
 pub mod Lists
 pub mod Products
 pub mod Boxes
+pub mod Inverting
 pub mod Mixing
 pub mod Rounds
 pub mod Columns

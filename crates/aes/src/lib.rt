@@ -1,9 +1,7 @@
 // The AES encryption round of FIPS 197 with a zero key, and its inverse, on a block of four words. A word is a column of the state.
 // MixColumns works on the four bytes of a word at once.
-mod inverse_table;
 mod table;
 
-use inverse_table::INVERSE_SBOX;
 use table::SBOX;
 use words::Block;
 ghost use mathlib.Core.Path.{_≡_};
@@ -26,11 +24,16 @@ pub fn sbox() -> [u8; 256]
     SBOX
 }
 
-// The inverse S-box.
+// The inverse S-box, made from the S-box: each byte is put at the place that its entry names.
 pub fn inverse_sbox() -> [u8; 256]
     ensures { λ r. ⌜ Holds unsub r ⌝ }
 {
-    INVERSE_SBOX
+    let s = sbox();
+    let mut r = [0u8; 256];
+    for i in 0..256 {
+        r[s[i] as usize] = i as u8;
+    }
+    r
 }
 
 fn wide(x: u8) -> u32
