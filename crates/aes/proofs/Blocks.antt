@@ -8,8 +8,9 @@ use Rattle.words.specs.Machine.{bytesOf}
 use Rattle.words.specs.declared.Block.{Block}
 use Rattle.words.proofs.Bytes.{little-below}
 use Rattle.words.proofs.Blocks.{four}
-use Rattle.aes.specs.Field.{sub, unsub}
-use Rattle.aes.specs.Round.{gathered, mixBy, mixColumns, unmixColumns, round, unround}
+use Rattle.aes.specs.Field.{sub}
+use Rattle.aes.specs.Unround.{unsub, unmixColumns, unround}
+use Rattle.aes.specs.Round.{gathered, mixBy, mixColumns, round}
 use Rattle.aes.specs.Tables.{Holds}
 use Rattle.aes.specs.Columns.{diagonal}
 

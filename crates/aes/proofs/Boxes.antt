@@ -4,7 +4,8 @@ use mathlib.Core.Path.{_≡_, ap, _∙_}
 use Prim.Native.Nat.{ℕ, zero, suc, _<_}
 use lib.Dec.{lit<, eqb, eqb→eq}
 use Rattle.words.specs.Xor.{_⊕_}
-use Rattle.aes.specs.Field.{xtime, mulBits, gmul, square, powOnes, inverse, rotated, affine, unaffine, sub, unsub}
+use Rattle.aes.specs.Field.{xtime, mulBits, gmul, square, powOnes, inverse, rotated, affine, sub}
+use Rattle.aes.specs.Unround.{unaffine, unsub}
 use Rattle.aes.proofs.Tests.{below, each, each-lt}
 use Rattle.aes.proofs.Products.{gmul-lt}
 

@@ -11,7 +11,8 @@ use Rattle.words.specs.Bytes.{little, number}
 use Rattle.words.proofs.Bytes.{little-row, number-little, little-number, little-xor}
 use Rattle.words.proofs.Blocks.{four}
 use Rattle.aes.specs.Field.{xtime}
-use Rattle.aes.specs.Round.{mixBy, mixColumns, unmixColumns}
+use Rattle.aes.specs.Round.{mixBy, mixColumns}
+use Rattle.aes.specs.Unround.{unmixColumns}
 use Rattle.aes.specs.Columns.{turned}
 use Rattle.aes.proofs.Tests.{each}
 use Rattle.aes.proofs.Lists.{map-row, map-same, xors-map, number-and, number-times}

@@ -4,8 +4,9 @@ use mathlib.Core.Path.{_≡_, refl}
 use mathlib.Core.List.{List, [], _∷_}
 use Prim.Native.Nat.{ℕ}
 use Rattle.words.specs.Xor.{_⊕_}
-use Rattle.aes.specs.Field.{xtime, mulBits, gmul, square, powOnes, inverse, rotated, affine, unaffine, sub, unsub}
-use Rattle.aes.specs.Round.{gathered, dot, mixBy, round, unround}
+use Rattle.aes.specs.Field.{xtime, mulBits, gmul, square, powOnes, inverse, rotated, affine, sub}
+use Rattle.aes.specs.Unround.{unaffine, unsub, unround}
+use Rattle.aes.specs.Round.{gathered, dot, mixBy, round}
 
 product : gmul 0x57 0x13 ≡ 0xfe
 unfolding xtime mulBits gmul _⊕_

@@ -7,7 +7,8 @@ use native.Mathlib.Omega.{arith}
 use borrow.Author.Count.{below-none, below-more}
 use lib.ListN.{length, getD, set, length-set}
 use lib.Seq.{getD-set-same, getD-set-other}
-use Rattle.aes.specs.Field.{sub, unsub}
+use Rattle.aes.specs.Field.{sub}
+use Rattle.aes.specs.Unround.{unsub}
 use Rattle.aes.specs.Tables.{Holds}
 use Rattle.aes.proofs.Boxes.{sub-lt, unsub-lt, unsub-sub, sub-unsub}
 

@@ -9,7 +9,8 @@ use Rattle.words.specs.Bytes.{Row}
 use Rattle.words.proofs.XorLaws.{xor, ⊕-lt}
 use Rattle.words.proofs.Rows.{Below}
 use Rattle.aes.specs.Field.{xtime, mulBits, gmul}
-use Rattle.aes.specs.Round.{dot, mixBy, mixColumns, unmixColumns}
+use Rattle.aes.specs.Round.{dot, mixBy, mixColumns}
+use Rattle.aes.specs.Unround.{unmixColumns}
 use Rattle.aes.proofs.Products.{gmul-xor, gmul-lt, products}
 
 -- what two mixings, one after the other, make of one byte

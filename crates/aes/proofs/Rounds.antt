@@ -5,8 +5,9 @@ use Prim.Native.Nat.{ℕ}
 use lib.ListN.{length, getD}
 use Rattle.words.specs.Bytes.{Row, IsBlock}
 use Rattle.words.proofs.Rows.{Below, tab-all}
-use Rattle.aes.specs.Field.{sub, unsub}
-use Rattle.aes.specs.Round.{subBytes, unsubBytes, gathered, shiftRows, unshiftRows, mixColumns, unmixColumns, round, unround}
+use Rattle.aes.specs.Field.{sub}
+use Rattle.aes.specs.Unround.{unsub, unsubBytes, unshiftRows, unmixColumns, unround}
+use Rattle.aes.specs.Round.{subBytes, gathered, shiftRows, mixColumns, round}
 use Rattle.aes.proofs.Lists.{map-row, map-undo}
 use Rattle.aes.proofs.Boxes.{sub-lt, unsub-lt, unsub-sub, sub-unsub}
 use Rattle.aes.proofs.Mixing.{unmix-mix, mix-unmix, mix-row}

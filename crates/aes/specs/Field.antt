@@ -1,4 +1,4 @@
--- The field GF(2^8) of FIPS 197, section 4, and the rule of its S-box, section 5.1.1, with the inverse one, section 5.3.2.
+-- The field GF(2^8) of FIPS 197, section 4, and the rule of its S-box, section 5.1.1.
 -- A byte is a number below 256, and stands for the polynomial of degree below 8 whose coefficients are its bits, bit i for x^i. Addition is
 -- xor, and a product is taken modulo x^8 + x^4 + x^3 + x + 1, which is 0x11b.
 use Prim.Native.Nat.{ℕ, zero, suc, _+_, _*_, _/_, _%_, _^_}
@@ -38,14 +38,6 @@ rotated n b = b * 2 ^ n % 256 + b * 2 ^ n / 256
 unfoldable pub affine : ℕ → ℕ
 affine b = b ⊕ rotated 1 b ⊕ rotated 2 b ⊕ rotated 3 b ⊕ rotated 4 b ⊕ 0x63
 
--- its inverse: bits i + 2, i + 5 and i + 7, and bit i of 0x05
-unfoldable pub unaffine : ℕ → ℕ
-unaffine b = rotated 1 b ⊕ rotated 3 b ⊕ rotated 6 b ⊕ 0x05
-
 -- the S-box: inverse in the field, then the affine map
 unfoldable pub sub : ℕ → ℕ
 sub b = affine (inverse b)
-
--- and its inverse
-unfoldable pub unsub : ℕ → ℕ
-unsub b = inverse (unaffine b)

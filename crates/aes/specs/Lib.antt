@@ -1,4 +1,5 @@
 pub mod Field
 pub mod Round
+pub mod Unround
 pub mod Tables
 pub mod Columns

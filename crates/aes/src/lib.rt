@@ -10,9 +10,12 @@ ghost use Prim.Native.Nat.{_<_, _%_};
 ghost use lib.ListN.{getD};
 ghost use Rattle.words.specs.Bytes.{little};
 ghost use Rattle.words.specs.Machine.{bytesOf};
-ghost use Rattle.aes.specs.Field.{xtime, sub, unsub};
+ghost use Rattle.aes.specs.Field.{xtime, sub};
+ghost use Rattle.aes.specs.Unround.{unsub};
 ghost use Rattle.aes.specs.Round as Round;
-ghost use Rattle.aes.specs.Round.{gathered, mixColumns, unmixColumns};
+ghost use Rattle.aes.specs.Unround as Unround;
+ghost use Rattle.aes.specs.Round.{gathered, mixColumns};
+ghost use Rattle.aes.specs.Unround.{unmixColumns};
 ghost use Rattle.aes.specs.Tables.{Holds};
 ghost use Rattle.aes.specs.Columns.{diagonal, turned};
 
@@ -106,7 +109,7 @@ pub fn round(x: Block, t: &[u8; 256]) -> Block
 // The block whose round it is, over the inverse S-box.
 pub fn unround(x: Block, t: &[u8; 256]) -> Block
     requires { ⌜ Holds unsub (now t) ⌝ }
-    ensures { λ r. ⌜ bytesOf r ≡ Round.unround (bytesOf x) ⌝ }
+    ensures { λ r. ⌜ bytesOf r ≡ Unround.unround (bytesOf x) ⌝ }
 {
     let a = unmixed(x.w0);
     let b = unmixed(x.w1);

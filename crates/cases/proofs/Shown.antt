@@ -21,12 +21,12 @@ use Rattle.aes.specs.Round.{gathered, dot, mixBy, round}
 use Rattle.ghash.specs.Hash.{big, bigs, _•_, eat, eats, blocks-of, hashFrom}
 use Rattle.ghash.proofs.Product.{product-zero}
 use Rattle.ghash.proofs.Cases.{one-is, rightmost-is}
-use Rattle.page.specs.Page.{keystream, encrypted, tag-for, page-tag}
+use Rattle.page.specs.Page.{encrypted, tag-for, page-tag}
 use Rattle.page.proofs.Ciphertext.{stream-block}
 use Rattle.retention.proofs.Cases.{kept-at-548, not-kept-at-549}
 use Rattle.cipher.specs.Step.{T1, T2, sigma, z, step}
 use Rattle.cipher.specs.Run.{move, made, moves, zs}
-use Rattle.start.specs.Start.{Mode, mode-cells, load}
+use Rattle.start.specs.Start.{Mode, mode-cells, load, keystream}
 use Rattle.start.proofs.Undo.{mode-row, high}
 use Rattle.cases.specs.Starred.{All, starred}
 

@@ -15,8 +15,8 @@ use Rattle.aes.specs.Round.{round}
 use Rattle.ghash.specs.Hash.{_•_}
 use Rattle.cipher.specs.Step.{z}
 use Rattle.cipher.specs.Run.{forward, zs}
-use Rattle.start.specs.Start.{Mode, load, blank}
-use Rattle.page.specs.Page.{keystream, page-tag}
+use Rattle.start.specs.Start.{Mode, load, keystream, blank}
+use Rattle.page.specs.Page.{page-tag}
 use Rattle.retention.specs.Keeping.{Verdict.decided, keeping}
 
 -- every statement of a list holds

@@ -11,7 +11,8 @@ use Rattle.words.specs.Sums.{_⊞_, _⊟_}
 use Rattle.words.proofs.Rows.{row-take, row-drop, tab-all}
 use Rattle.words.proofs.Bytes.{littles-long, littles-below}
 use Rattle.words.proofs.Sums.{⊞-block, ⊟-block, ⊟-⊞, ⊞-⊟, xors-block, xors-back}
-use Rattle.aes.specs.Round.{gathered, round, unround}
+use Rattle.aes.specs.Round.{gathered, round}
+use Rattle.aes.specs.Unround.{unround}
 use Rattle.aes.proofs.Rounds.{gathered-row, round-block, unround-block, unround-round, round-unround}
 use Rattle.lfsr.specs.Clock.{Lfsr, snowV, clocks, IsLfsr}
 use Rattle.lfsr.specs.Unclock.{solvedV, unclocks}

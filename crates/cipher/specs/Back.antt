@@ -6,7 +6,7 @@ use lib.ListN.{take}
 use Rattle.words.specs.Xor.{xors}
 use Rattle.words.specs.Bytes.{littles}
 use Rattle.words.specs.Sums.{_⊞_, _⊟_}
-use Rattle.aes.specs.Round.{unround}
+use Rattle.aes.specs.Unround.{unround}
 use Rattle.lfsr.specs.Clock.{snowV}
 use Rattle.lfsr.specs.Unclock.{solvedV, unclocks}
 use Rattle.cipher.specs.Registers.{Registers}

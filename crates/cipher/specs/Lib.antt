@@ -5,3 +5,4 @@ pub mod Run
 pub mod Machine
 pub mod Lent
 pub mod Laws
+pub mod Inner

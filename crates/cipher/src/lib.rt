@@ -4,13 +4,18 @@ ghost use mathlib.Core.List.{[], _∷_, _++_};
 ghost use Prim.Native.Nat.{_/_, _%_};
 ghost use lib.ListN.{length, take, drop};
 ghost use denote.Ref.{ptr};
+ghost use Rattle.words.specs.Xor.{xors};
 ghost use Rattle.words.specs.Bytes.{little, littles};
+ghost use Rattle.words.specs.Sums.{_⊞_};
 ghost use Rattle.words.specs.Machine.{bytesOf};
-ghost use Rattle.aes.specs.Field.{sub, unsub};
+ghost use Rattle.aes.specs.Field.{sub};
+ghost use Rattle.aes.specs.Unround.{unsub};
 ghost use Rattle.aes.specs.Tables.{Holds};
 ghost use Rattle.cipher.specs.Step;
+ghost use Rattle.cipher.specs.Back;
 ghost use Rattle.cipher.specs.Run.{forward, backward, move, made, run-number, run-registers, run-part};
 ghost use Rattle.cipher.specs.Machine.{registersOf, Moves, Steps};
+ghost use Rattle.cipher.specs.Inner.{box};
 ghost use Rattle.cipher.specs.Lent.{rest-stays};
 use lfsr::Lfsr;
 use words::Block;
@@ -112,6 +117,27 @@ pub fn forward(s: State, sbox: &[u8; 256]) -> Moved
     Moved { state: state, z: z }
 }
 
+// The z of the step that led to a state, of R1 and R2 before it and of B after it, whose low half was T1.
+fn z_made(r1: Block, r2: Block, b: [u16; 16]) -> Block
+    ensures { λ r. ⌜ bytesOf r ≡ xors (bytesOf r1 ⊞ littles 2 (take 8 b)) (bytesOf r2) ⌝ }
+{
+    words::xor(words::plus(r1, low_half(b)), r2)
+}
+
+// The z of the step that led to a state, which does not hang on register A.
+pub fn z_before(s: State, inverse: &[u8; 256]) -> Block
+    requires { ⌜ Holds unsub (now inverse) ⌝ }
+    ensures { λ r. ⌜ bytesOf r ≡ Back.z-before (registersOf s) ⌝ }
+{
+    let l = s.lfsr;
+    let r2 = s.r2;
+    let r3 = s.r3;
+    let b = l.b;
+    let o1 = aes::unround(r2, inverse);
+    let o2 = aes::unround(r3, inverse);
+    z_made(o1, o2, b)
+}
+
 // One step back, over a lent inverse S-box, with the z of the step that is undone. The clocks go first: R3 had the old a0 to a7 xored in.
 pub fn backward(s: State, inverse: &[u8; 256]) -> Moved
     requires { ⌜ Holds unsub (now inverse) ⌝ }
@@ -124,7 +150,7 @@ pub fn backward(s: State, inverse: &[u8; 256]) -> Moved
     let b = l.b;
     let o1 = aes::unround(r2, inverse);
     let o2 = aes::unround(r3, inverse);
-    let z = words::xor(words::plus(o1, low_half(b)), o2);
+    let z = z_made(o1, o2, b);
     let o = lfsr::unclock8(l);
     let a = o.a;
     let o3 = words::xor(words::minus(sigma(r1), o2), low_half(a));
@@ -137,15 +163,25 @@ pub fn backward(s: State, inverse: &[u8; 256]) -> Moved
     Moved { state: state, z: z }
 }
 
-// One step either way, over both lent tables.
-fn one_step(s: State, back: bool, sbox: &[u8; 256], inverse: &[u8; 256]) -> Moved
-    requires { ⌜ Holds sub (now sbox) × Holds unsub (now inverse) ⌝ }
+// The table that a step in a direction goes by: the S-box, or its inverse, which no step forward makes.
+fn table(back: bool) -> [u8; 256]
+    ensures { λ r. ⌜ Holds (box back) r ⌝ }
+{
+    if back {
+        return aes::inverse_sbox();
+    }
+    aes::sbox()
+}
+
+// One step either way, over its lent table.
+fn one_step(s: State, back: bool, table: &[u8; 256]) -> Moved
+    requires { ⌜ Holds (box back) (now table) ⌝ }
     ensures { λ r. ⌜ Moves back s r ⌝ }
 {
     if back {
-        return backward(s, inverse);
+        return backward(s, table);
     }
-    forward(s, sbox)
+    forward(s, table)
 }
 
 // One step: the state it leads to, and its z.
@@ -207,12 +243,11 @@ pub fn run_core(s: State, answer: &mut u64, out: &mut [u8], n: usize, back: bool
         *answer = scope::SHORT_OUTPUT;
         return Ran { state: s, wrote: 0 };
     }
-    let sbox = aes::sbox();
-    let inverse = aes::inverse_sbox();
+    let boxed = table(back);
     let mut t = s;
     let mut i = 0;
     while i < n {
-        let w = one_step(t, back, &sbox, &inverse);
+        let w = one_step(t, back, &boxed);
         let u = w.state;
         let z = w.z;
         t = u;

@@ -4,4 +4,4 @@ pub mod Reading
 pub mod Taken
 pub mod Printing
 pub mod Whole
-pub mod Session
+pub mod Sealing

@@ -9,7 +9,8 @@ use Rattle.session.specs.declared.Session as machine
 use Rattle.session.specs.Session.{Session}
 use Rattle.session.specs.Machine.{sessionOf}
 use Rattle.session.specs.Inner.{Multiples}
-use Rattle.session.specs.Calls.{Given, begin-call, data-taken, closed, text-taken, text-out}
+use Rattle.session.specs.Calls.{Given, begin-call}
+use Rattle.session.specs.Pieces.{data-taken, closed, text-taken, text-out}
 use Rattle.start.specs.Start.{keystream}
 use Rattle.page.specs.Page.{cipher-of}
 use Rattle.page.proofs.Stages.{Stage, Stage.taking-data, Stage.taking-text, session-at, data-at, closed-at, text-taken-at, text-out-at}

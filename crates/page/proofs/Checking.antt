@@ -5,7 +5,7 @@ use Prim.Native.Nat.{ℕ}
 use native.Mathlib.Omega.{arith}
 use lib.ListN.{length, take, drop}
 use lib.Seq.{take-all}
-use Rattle.session.specs.Calls.{closed, tag-of}
+use Rattle.session.specs.Pieces.{closed, tag-of}
 use Rattle.digest.specs.Digest.{absorb}
 use Rattle.page.specs.Page.{encrypted, tag-for}
 use Rattle.page.specs.Inner.{tag-over}

@@ -19,7 +19,8 @@ use Rattle.start.specs.Start.{Mode.sealed, start, keystream}
 use Rattle.digest.specs.Digest.{Sum, fresh, push, absorb, settled}
 use Rattle.digest.proofs.Pieces.{absorb-append, absorb-one}
 use Rattle.session.specs.Session.{Session, ceil16, drawn-at}
-use Rattle.session.specs.Calls.{begun, data-taken, closed, byte-current, byte-out, byte-taken, text-taken, text-out}
+use Rattle.session.specs.Calls.{begun}
+use Rattle.session.specs.Pieces.{data-taken, closed, byte-current, byte-out, byte-taken, text-taken, text-out}
 use Rattle.page.specs.Page.{encrypted, cipher-of}
 use Rattle.page.proofs.Phases.{ad-sum, text-sum}
 use Rattle.page.proofs.Ciphertext.{stream-byte, encrypted-append, encrypted-one, encrypted-length}

@@ -12,7 +12,7 @@ use Rattle.ghash.proofs.BigEndian.{bigs-long}
 use Rattle.ghash.proofs.Hashing.{hashFrom-block}
 use Rattle.digest.specs.Digest.{settled}
 use Rattle.session.specs.Session.{Session}
-use Rattle.session.specs.Calls.{closed, tag-of}
+use Rattle.session.specs.Pieces.{closed, tag-of}
 use Rattle.start.specs.Start.{keystream}
 use Rattle.page.specs.Page.{cipher-of, padded, tag-for, page-tag}
 use Rattle.page.proofs.Phases.{text-sum, phases}

@@ -4,7 +4,7 @@ use Prim.Native.Nat.{ℕ}
 use lib.ListN.{length}
 use Rattle.digest.specs.Digest.{Sum, absorb}
 use Rattle.session.specs.Session.{Session}
-use Rattle.session.specs.Calls.{tag-of}
+use Rattle.session.specs.Pieces.{tag-of}
 
 -- a session in its text, at a length and hash
 abbrev pub in-text : Session → ℕ → Sum → Session

@@ -10,7 +10,7 @@ use lib.Seq.{sets, sets-eq, length-sets, slice, slice-empty, length-slice}
 use Rattle.words.proofs.Rows.{sets-append}
 use Rattle.digest.proofs.Slices.{slice-split, slice-all, headOf, tailOf}
 use Rattle.session.specs.Session.{Session}
-use Rattle.session.specs.Calls.{text-taken, text-out}
+use Rattle.session.specs.Pieces.{text-taken, text-out}
 use Rattle.session.proofs.Pieces.{text-none, out-none, text-append, out-append, out-length, text-count, text-h}
 
 -- the session was s and the output o; they are u and out

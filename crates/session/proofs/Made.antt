@@ -18,7 +18,7 @@ use Rattle.digest.specs.Digest.{fresh}
 use Rattle.session.specs.declared.Session as machine
 use Rattle.session.specs.declared.Lane.{Lane}
 use Rattle.session.specs.Session.{Session}
-use Rattle.session.specs.Calls.{text-taken, text-out}
+use Rattle.session.specs.Pieces.{text-taken, text-out}
 use Rattle.session.specs.Machine.{sessionOf}
 use Rattle.session.specs.Inner.{ready, masked, counted, holding, held, Track, trackOf, block-taken, Multiples}
 use Rattle.session.proofs.Within.{within-out, within-few, within-full, block-out, block-taken-is}

@@ -13,7 +13,8 @@ use Rattle.session.specs.declared.Session as machine
 use Rattle.session.specs.declared.Said.{Said}
 use Rattle.session.specs.Session.{Session}
 use Rattle.session.specs.Machine.{sessionOf, Says}
-use Rattle.session.specs.Calls.{data-number, data-taken, data-call, closed, text-taken, text-out, text-number, text-call, finish-number, tag-of, finished, finish-call}
+use Rattle.session.specs.Calls.{data-number, data-call, text-number, text-call, finish-number, finished, finish-call}
+use Rattle.session.specs.Pieces.{data-taken, closed, text-taken, text-out, tag-of}
 
 module _ (s : Session) (p : List ℕ) where
   pub data-late : ¬ (s .phase ≡ 0) → data-number s p ≡ 7

@@ -14,7 +14,7 @@ use Rattle.digest.specs.Digest.{Sum, absorb, settled}
 use Rattle.digest.proofs.Pieces.{absorb-append}
 use Rattle.session.specs.Session.{Session}
 use Rattle.session.specs.Inner.{told, into-text}
-use Rattle.session.specs.Calls.{data-taken, closed, byte-out, byte-taken, text-taken, text-out}
+use Rattle.session.specs.Pieces.{data-taken, closed, byte-out, byte-taken, text-taken, text-out}
 
 -- ---- text
 

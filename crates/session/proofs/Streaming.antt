@@ -10,7 +10,7 @@ use Rattle.words.specs.Xor.{xors}
 use Rattle.cipher.specs.Registers.{Registers}
 use Rattle.cipher.specs.Step.{z, step}
 use Rattle.session.specs.Session.{Session}
-use Rattle.session.specs.Calls.{text-taken, text-out}
+use Rattle.session.specs.Pieces.{text-taken, text-out}
 use Rattle.session.specs.Inner.{ready, masked}
 use Rattle.session.proofs.Pieces.{text-count}
 use Rattle.session.proofs.Within.{drawn-once, ready-start, within-out}

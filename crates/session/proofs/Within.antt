@@ -14,7 +14,7 @@ use Rattle.cipher.specs.Step.{z, step}
 use Rattle.digest.specs.Digest.{Sum, fresh, absorb}
 use Rattle.digest.proofs.Pieces.{absorb-inside, absorb-fills, absorb-block}
 use Rattle.session.specs.Session.{Session}
-use Rattle.session.specs.Calls.{byte-current, byte-out, byte-taken, text-taken, text-out}
+use Rattle.session.specs.Pieces.{byte-current, byte-out, byte-taken, text-taken, text-out}
 use Rattle.session.specs.Inner.{ready, masked, counted, sent-on, held}
 use Rattle.session.proofs.Pieces.{out-length, text-count, text-phase, text-ad, text-h, text-pad, text-sum}
 

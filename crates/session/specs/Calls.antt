@@ -1,21 +1,20 @@
 -- The calls of a session (document 01, "Sessions and parking"): for each its number, 0 or that of the refusal in the call's order, and what an
 -- accepted call makes of the session. A refused call hands the session back as it was. Pieces and outputs are lists of bytes.
-use Prim.Native.Nat.{ℕ, _+_, _%_}
-use mathlib.Core.List.{List, [], _∷_, _++_}
+use Prim.Native.Nat.{ℕ, _+_}
+use mathlib.Core.List.{List, [], _++_}
 use mathlib.Core.Bool.{not}
 use lib.Dec.{eqb, ltb}
-use lib.ListN.{getD, length, drop}
+use lib.ListN.{length, drop}
 use Rattle.scope.specs.Limits.{most-data, most-text}
-use Rattle.scope.specs.Refusals.{pick, refuse, granted, out-of-phase, too-long, short-output}
-use Rattle.words.specs.Xor.{_⊕_, xors}
+use Rattle.scope.specs.Refusals.{refuse, granted, out-of-phase, too-long, short-output}
 use Rattle.words.specs.Bytes.{zeros}
-use Rattle.ghash.specs.Hash.{lengths, eat}
 use Rattle.cipher.specs.Registers.{Registers}
-use Rattle.cipher.specs.Step.{z, step}
+use Rattle.cipher.specs.Step.{z}
 use Rattle.cipher.specs.Run.{forward, moves}
 use Rattle.start.specs.Start.{Mode.sealed, start, start-number, blank}
-use Rattle.digest.specs.Digest.{fresh, push, absorb, settled}
+use Rattle.digest.specs.Digest.{fresh}
 use Rattle.session.specs.Session.{Session}
+use Rattle.session.specs.Pieces.{data-taken, closed, text-taken, text-out, tag-of}
 
 -- ---- begin: 1, 2 (the numbers of a start)
 
@@ -46,66 +45,7 @@ no-session = record { phase = 2; ad = 0; text = 0; registers = blank; h = zeros;
 unfoldable pub data-number : Session → (piece : List ℕ) → ℕ
 data-number s p = refuse (not (eqb (s .phase) 0)) out-of-phase (refuse (ltb most-data (s .ad + length p)) too-long 0)
 
-unfoldable pub data-taken : Session → (piece : List ℕ) → Session
-data-taken s p =
-    record {
-      phase = 0;
-      ad = s .ad + length p;
-      text = s .text;
-      registers = s .registers;
-      h = s .h;
-      pad = s .pad;
-      current = s .current;
-      sum = absorb (s .h) (s .sum) (s .ad) p;
-    }
-
 -- ---- text: 7, 3, 4
-
--- the first text closes the data: what is held of it is padded with zeros and hashed. Nothing is left to do where that is done
-unfoldable pub closed : Session → Session
-closed s =
-    pick (eqb (s .phase) 0)
-    (record {
-      phase = 1;
-      ad = s .ad;
-      text = s .text;
-      registers = s .registers;
-      h = s .h;
-      pad = s .pad;
-      current = s .current;
-      sum = fresh (settled (s .h) (s .sum) (s .ad));
-    })
-    s
-
--- the keystream block for the next byte: one is drawn where the length so far is a multiple of 16, and not before
-unfoldable pub byte-current : Session → List ℕ
-byte-current s = pick (eqb (s .text % 16) 0) (z (s .registers)) (s .current)
-
--- a byte of text sealed
-unfoldable pub byte-out : Session → ℕ → ℕ
-byte-out s b = b ⊕ getD (byte-current s) (s .text % 16) 0
-
-unfoldable pub byte-taken : Session → ℕ → Session
-byte-taken s b =
-    record {
-      phase = s .phase;
-      ad = s .ad;
-      text = s .text + 1;
-      registers = pick (eqb (s .text % 16) 0) (step (s .registers)) (s .registers);
-      h = s .h;
-      pad = s .pad;
-      current = byte-current s;
-      sum = push (s .h) (s .sum) (s .text) (byte-out s b);
-    }
-
--- a piece: the session after it, and its ciphertext
-unfoldable pub text-taken : Session → (piece : List ℕ) → Session
-text-taken s [] = s
-text-taken s (b ∷ p) = text-taken (byte-taken s b) p
-
-unfoldable pub text-out : Session → (piece : List ℕ) → List ℕ
-text-out s [] = []
-text-out s (b ∷ p) = byte-out s b ∷ text-out (byte-taken s b) p
 
 unfoldable pub text-number : Session → (piece out : List ℕ) → ℕ
 text-number s p out =
@@ -116,11 +56,6 @@ text-number s p out =
 
 unfoldable pub finish-number : Session → ℕ
 finish-number s = refuse (not (ltb (s .phase) 2)) out-of-phase 0
-
--- the hash of all, both lengths last, xor the end pad
-unfoldable pub tag-of : Session → List ℕ
-tag-of s =
-    xors (eat (s .h) (settled (s .h) (closed s .sum) (s .text)) (lengths (s .ad) (s .text))) (s .pad)
 
 unfoldable pub finished : Session → Session
 finished s =

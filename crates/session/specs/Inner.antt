@@ -20,7 +20,7 @@ use Rattle.digest.specs.Digest.{Sum, fresh}
 use Rattle.digest.specs.Machine.{sumOf}
 use Rattle.session.specs.declared.Lane.{Lane}
 use Rattle.session.specs.Session.{Session}
-use Rattle.session.specs.Calls.{byte-current}
+use Rattle.session.specs.Pieces.{byte-current}
 
 -- n bytes more of data, which are hashed or held in y
 abbrev pub told : Session → ℕ → (y : Sum) → Session

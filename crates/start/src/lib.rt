@@ -4,9 +4,9 @@ ghost use mathlib.Core.List.{_++_};
 ghost use Prim.Native.Nat.{_+_};
 ghost use Rattle.words.specs.Bytes.{little, littles, numbers};
 ghost use Rattle.words.specs.Machine.{bytesOf};
-ghost use Rattle.aes.specs.Field.{sub, unsub};
+ghost use Rattle.aes.specs.Field.{sub};
+ghost use Rattle.aes.specs.Unround.{unsub};
 ghost use Rattle.aes.specs.Tables.{Holds};
-ghost use Rattle.cipher.specs.Back;
 ghost use Rattle.cipher.specs.Run.{backward, moves};
 ghost use Rattle.cipher.specs.Machine.{registersOf};
 ghost use Rattle.start.specs.Start;
@@ -192,27 +192,12 @@ pub fn start(key: &[u8], iv: &[u8], mode: Mode) -> Started
     }
 }
 
-// The z of the step that led to a state, which does not hang on register A.
-fn z_before(s: State, inverse: &[u8; 256]) -> Block
-    requires { ⌜ Holds unsub (now inverse) ⌝ }
-    ensures { λ r. ⌜ bytesOf r ≡ Back.z-before (registersOf s) ⌝ }
-{
-    let l = s.lfsr;
-    let r2 = s.r2;
-    let r3 = s.r3;
-    let b = l.b;
-    words::xor(
-        words::plus(aes::unround(r2, inverse), cipher::low_half(b)),
-        aes::unround(r3, inverse),
-    )
-}
-
 // One of the 16 steps of a start, undone.
 fn uninitial(s: State, inverse: &[u8; 256]) -> State
     requires { ⌜ Holds unsub (now inverse) ⌝ }
     ensures { λ r. ⌜ registersOf r ≡ Trace.uninitial (registersOf s) ⌝ }
 {
-    let w = cipher::backward(into_a(s, z_before(s, inverse)), inverse);
+    let w = cipher::backward(into_a(s, cipher::z_before(s, inverse)), inverse);
     w.state
 }
 

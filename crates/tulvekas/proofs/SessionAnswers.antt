@@ -6,7 +6,8 @@ use lib.ListN.{length, drop}
 use Rattle.scope.specs.Refusals.{granted}
 use Rattle.start.specs.Start.{start-number}
 use Rattle.session.specs.Session.{Session}
-use Rattle.session.specs.Calls.{Given, begin-call, closed, text-out, text-number, text-call, finish-call}
+use Rattle.session.specs.Calls.{Given, begin-call, text-number, text-call, finish-call}
+use Rattle.session.specs.Pieces.{closed, text-out}
 use Rattle.session.proofs.Numbers.{finish-late, finish-due}
 use Rattle.layout.specs.Block.{block-of}
 use Rattle.suspend.specs.Calls.{suspended-of, suspend-number, suspend-call, resume-call}

@@ -14,7 +14,7 @@ use Rattle.command.specs.Machine.{between}
 use Rattle.command.proofs.Reading.{formed-bytes}
 use Rattle.command.specs.Laws.{FourLines}
 use Rattle.command.proofs.Whole.{read-as}
-use Rattle.command.proofs.Session.{refused-is, sealed-is, same-answer}
+use Rattle.command.proofs.Sealing.{refused-is, sealed-is, same-answer}
 use Rattle.command.proofs.seal_lines.Statement.{statement}
 use Rattle.command.proofs.seal_lines.Tie as tie
 

@@ -8,7 +8,7 @@ use denote.Ref.{now}
 use Rattle.scope.specs.Limits.{most-data, most-text}
 use Rattle.session.specs.Session.{Session}
 use Rattle.session.specs.Machine.{sessionOf}
-use Rattle.session.specs.Calls.{tag-of}
+use Rattle.session.specs.Pieces.{tag-of}
 use Rattle.page.proofs.Stages.{Stage.taking-data, Stage.taking-text, phase-at, session-at}
 use Rattle.page.proofs.Tags.{tag-at}
 use Rattle.page.proofs.AtOnce.{begun-session, lent, told-session, closed-session, whole-session, whole-out}

@@ -4,7 +4,7 @@ use lib.ListN.{length}
 use denote.Ref.{now}
 use Rattle.ghash.proofs.Elements.{Halves}
 use Rattle.digest.specs.Digest.{Sum}
-use Rattle.session.specs.Calls.{tag-of}
+use Rattle.session.specs.Pieces.{tag-of}
 use Rattle.session.proofs.Made.{by-number}
 use Rattle.session.specs.Machine.{sessionOf}
 use Rattle.page.specs.Inner.{in-text, tag-over}

@@ -7,7 +7,7 @@ use Rattle.ghash.specs.Hash.{eat}
 use Rattle.ghash.proofs.Elements.{Halves}
 use Rattle.digest.specs.Digest.{settled}
 use Rattle.session.specs.Session.{Session}
-use Rattle.session.specs.Calls.{tag-of}
+use Rattle.session.specs.Pieces.{tag-of}
 use Rattle.session.specs.Machine.{sessionOf}
 use Rattle.session.proofs.Made.{by-number}
 use borrow.Author.Needs.{needs}
