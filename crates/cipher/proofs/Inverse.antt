@@ -7,7 +7,8 @@ use lib.Dec.{lit<, lit≤}
 use lib.ListN.{take, drop}
 use Rattle.words.specs.Xor.{xors}
 use Rattle.words.specs.Bytes.{Row, IsBlock, littles}
-use Rattle.words.specs.Sums.{_⊞_, _⊟_}
+use Rattle.words.specs.Sums.{_⊞_}
+use Rattle.words.specs.Differences.{_⊟_}
 use Rattle.words.proofs.Rows.{row-take, row-drop, tab-all}
 use Rattle.words.proofs.Bytes.{littles-long, littles-below}
 use Rattle.words.proofs.Sums.{⊞-block, ⊟-block, ⊟-⊞, ⊞-⊟, xors-block, xors-back}

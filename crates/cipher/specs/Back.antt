@@ -5,7 +5,8 @@ use mathlib.Core.List.{List}
 use lib.ListN.{take}
 use Rattle.words.specs.Xor.{xors}
 use Rattle.words.specs.Bytes.{littles}
-use Rattle.words.specs.Sums.{_⊞_, _⊟_}
+use Rattle.words.specs.Sums.{_⊞_}
+use Rattle.words.specs.Differences.{_⊟_}
 use Rattle.aes.specs.Unround.{unround}
 use Rattle.lfsr.specs.Clock.{snowV}
 use Rattle.lfsr.specs.Unclock.{solvedV, unclocks}

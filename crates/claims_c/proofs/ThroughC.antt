@@ -32,7 +32,8 @@ use Rattle.claims.proofs.Within.{Within, row-of}
 use Rattle.claims.proofs.Suspending.{resume-at}
 use Rattle.claims.proofs.Reached.{trail-at, Reached, after-reached, call-reached, suspended-same, resumed-same}
 use Rattle.tulvekas.specs.Order.{next, room, buffer-after}
-use Rattle.tulvekas.specs.SessionBytes.{session-bytes, session-in, Sized}
+use Rattle.tulvekas.specs.SessionBytes.{session-bytes, session-in}
+use Rattle.tulvekas.proofs.Sizes.{Sized}
 use Rattle.tulvekas.specs.Sessions.{whole, begin-answer, data-answer, text-answer, finish-answer, suspend-answer, suspend-writes, resume-answer, resume-writes}
 use Rattle.tulvekas.proofs.Answering.{nothing-later, fits, sound}
 use Rattle.tulvekas.proofs.SessionLaws.{session-row, session-whole}

@@ -14,7 +14,8 @@ use Rattle.scope.specs.Refusals.{pick}
 use Rattle.words.specs.Bytes.{zeros}
 use Rattle.ghash.specs.Hash.{eat, hashFrom}
 use Rattle.ghash.proofs.Hashing.{hash-append, hash-none, hash-one}
-use Rattle.digest.specs.Digest.{Sum, fresh, push, absorb}
+use Rattle.digest.specs.Sum.{Sum, fresh}
+use Rattle.digest.specs.Digest.{push, absorb}
 
 -- a hash with bytes held
 abbrev pub sum : List ℕ → List ℕ → Sum

@@ -10,7 +10,8 @@ use Rattle.words.specs.Bytes.{IsBlock}
 use Rattle.words.proofs.Rows.{Below, row-set, zeros-block}
 use Rattle.ghash.specs.Hash.{eat}
 use Rattle.ghash.proofs.Hashing.{eat-block}
-use Rattle.digest.specs.Digest.{Sum, fresh, push, absorb, settled}
+use Rattle.digest.specs.Sum.{Sum, fresh}
+use Rattle.digest.specs.Digest.{push, absorb, settled}
 use Rattle.digest.proofs.Pieces.{sum}
 
 -- both ways that a byte can go

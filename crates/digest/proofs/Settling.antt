@@ -12,7 +12,8 @@ use lib.Seq.{sets, sets-eq, length-take-le}
 use Rattle.words.specs.Bytes.{zeros}
 use Rattle.ghash.specs.Hash.{eat, eats, blocks-of, hashFrom, whole-blocks, rest}
 use Rattle.ghash.proofs.Hashing.{hash-append, hash-one}
-use Rattle.digest.specs.Digest.{Sum, fresh, absorb, settled}
+use Rattle.digest.specs.Sum.{Sum, fresh}
+use Rattle.digest.specs.Digest.{absorb, settled}
 use Rattle.digest.proofs.Pieces.{sum, absorb-rest}
 
 -- zeros behind s up to a whole number of blocks

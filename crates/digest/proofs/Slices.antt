@@ -12,7 +12,8 @@ use lib.Seq.{sets, length-sets, slice, slice-cons, slice-empty, length-slice, le
 use Rattle.words.specs.Bytes.{zeros}
 use Rattle.ghash.specs.Hash.{eat, hashFrom}
 use Rattle.ghash.proofs.Hashing.{hash-append, hash-none, hash-one}
-use Rattle.digest.specs.Digest.{Sum, fresh, absorb}
+use Rattle.digest.specs.Sum.{Sum, fresh}
+use Rattle.digest.specs.Digest.{absorb}
 use Rattle.digest.proofs.Pieces.{sum, absorb-append, absorb-fills, absorb-rest, absorb-over, sets-end}
 
 pub slice-split : (f m t : ℕ) (s : List ℕ) → f ≤ m → m ≤ t → t ≤ length s → slice f t s ≡ slice f m s ++ slice m t s

@@ -1,20 +1,12 @@
--- GHASH of bytes that arrive one by one (document 01, "Tag arithmetic" and "Sessions and parking"; SP 800-38D, section 6.4): the hash so far,
--- and the bytes not yet hashed, from the left, with zeros behind them. A byte comes with its number in its phase, from 0.
+-- GHASH of bytes that arrive one by one (document 01, "Tag arithmetic" and "Sessions and parking"; SP 800-38D, section 6.4). A byte comes with its
+-- number in its phase, from 0. For sessions that calls can reach this need not be believed by reading: crates/page/specs/Reached.antt has what they hold.
 use Prim.Native.Nat.{ℕ, _+_, _%_}
 use mathlib.Core.List.{List, [], _∷_}
 use lib.Dec.{eqb}
 use lib.ListN.{set}
 use Rattle.scope.specs.Refusals.{pick}
-use Rattle.words.specs.Bytes.{zeros}
 use Rattle.ghash.specs.Hash.{eat}
-
-pub record Sum : Type 0 where
-  pub hash : List ℕ
-  pub pending : List ℕ
-
--- a hash with no bytes held
-abbrev pub fresh : List ℕ → Sum
-fresh y = record { hash = y; pending = zeros }
+use Rattle.digest.specs.Sum.{Sum, fresh}
 
 -- one byte more, of number n: the sixteenth sends the block on
 unfoldable pub push : (h : List ℕ) → Sum → (n b : ℕ) → Sum

@@ -7,7 +7,7 @@ ghost use lib.Seq.{sets, slice};
 ghost use Rattle.words.specs.Machine.{bytesOf};
 ghost use Rattle.ghash.specs.Hash.{eat, hashFrom};
 ghost use Rattle.ghash.specs.Machine.{numberOf, bytesOfElement, Tables};
-ghost use Rattle.digest.specs.Digest;
+ghost use Rattle.digest.specs.Sum;
 ghost use Rattle.digest.specs.Digest.{absorb, settled};
 ghost use Rattle.digest.specs.Machine.{sumOf};
 use ghash::Element;
@@ -21,7 +21,7 @@ pub struct Held {
 
 // No bytes held under a hash.
 pub fn fresh(y: Element) -> Held
-    ensures { λ r. ⌜ sumOf r ≡ Digest.fresh (bytesOfElement y) ⌝ }
+    ensures { λ r. ⌜ sumOf r ≡ Sum.fresh (bytesOfElement y) ⌝ }
 {
     Held {
         acc: y,

@@ -17,7 +17,8 @@ use Rattle.fields.specs.Fields.{all-zero, check}
 use Rattle.fields.proofs.Reading.{check-front}
 use Rattle.fields.proofs.Zeros.{all-zero-zeros, all-zero-behind}
 use Rattle.layout.specs.Block.{body, block-of, read}
-use Rattle.layout.specs.Rules.{phase-length, rules, well-laid, Fine}
+use Rattle.layout.specs.Rules.{phase-length, rules, well-laid}
+use Rattle.layout.specs.Laws.{Fine}
 use Rattle.layout.proofs.RegisterBytes.{bytes-back, at-good}
 use Rattle.layout.proofs.Obeying.{rule, laid-long}
 

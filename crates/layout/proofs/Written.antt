@@ -17,7 +17,8 @@ use Rattle.fields.specs.Fields.{check}
 use Rattle.fields.proofs.Reading.{check-lt, check-front}
 use Rattle.fields.proofs.Zeros.{zeros-all-zero, behind-all-zero}
 use Rattle.layout.specs.Block.{Suspended, registers-bytes, registers-at, body, block-of, read}
-use Rattle.layout.specs.Rules.{rules, well-laid, Fine}
+use Rattle.layout.specs.Rules.{rules, well-laid}
+use Rattle.layout.specs.Laws.{Fine}
 use Rattle.layout.proofs.RegisterBytes.{good-row, registers-back}
 use Rattle.layout.proofs.Obeying.{ten}
 

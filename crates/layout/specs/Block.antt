@@ -7,7 +7,7 @@ use lib.ListN.{getD, replicate}
 use Rattle.words.specs.Bytes.{little, number, littles, numbers, part}
 use Rattle.fields.specs.Fields.{check}
 use Rattle.cipher.specs.Registers.{Registers}
-use Rattle.digest.specs.Digest.{Sum}
+use Rattle.digest.specs.Sum.{Sum}
 
 -- what a block says of a session: H, the end pad and the current keystream block are not in it, since they come from walking back
 pub record Suspended : Type 0 where

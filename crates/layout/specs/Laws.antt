@@ -1,11 +1,25 @@
 -- What is stated of the block beside the contracts. `read-and-written` of proofs/ReadAndWritten.antt proves it.
-use Prim.Native.Nat.{ℕ, _<_}
+use Prim.Native.Nat.{ℕ, _%_, _<_, _≤_}
 use mathlib.Core.Path.{_≡_}
 use mathlib.Core.Bool.{true}
 use mathlib.Core.List.{List}
 use lib.ListN.{getD}
+use Rattle.scope.specs.Limits.{most-data, most-text}
+use Rattle.words.specs.Bytes.{IsBlock}
+use Rattle.cipher.specs.Registers.{IsRegisters}
 use Rattle.layout.specs.Block.{Suspended, block-of, read}
-use Rattle.layout.specs.Rules.{well-laid, Fine}
+use Rattle.layout.specs.Rules.{phase-length, well-laid}
+
+-- what may be written, so that its block obeys the rules
+pub record Fine (k : Suspended) : Type 0 where
+  pub phase-is : k .phase ≤ 1
+  pub ad-fits : k .ad ≤ most-data
+  pub text-fits : k .text ≤ most-text
+  pub text-none : k .phase ≡ 0 → k .text ≡ 0
+  pub registers-good : IsRegisters (k .registers)
+  pub hash-block : IsBlock (k .sum .hash)
+  pub pending-block : IsBlock (k .sum .pending)
+  pub zeros-behind : (i : ℕ) → phase-length (k .phase) (k .ad) (k .text) % 16 ≤ i → getD (k .sum .pending) i 0 ≡ 0
 
 pub record ReadAndWritten : Type 0 where
   -- A block that is written obeys the rules, and reads back as what it was written for.

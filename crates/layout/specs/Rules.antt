@@ -1,17 +1,15 @@
 -- The layout rules of a suspended session's block (document 01, "Sessions and parking"), each with the words that it renders. A block that
 -- breaks one is refused with 8.
-use Prim.Native.Nat.{ℕ, _%_, _≤_}
-use mathlib.Core.Path.{_≡_}
+use Prim.Native.Nat.{ℕ, _%_}
 use mathlib.Core.Bool.{Bool, true, not, _&&_, _||_}
 use mathlib.Core.List.{List, [], _∷_}
 use lib.Dec.{eqb, leb}
 use lib.ListN.{getD, length, drop}
 use Rattle.scope.specs.Limits.{most-data, most-text}
 use Rattle.scope.specs.Refusals.{pick}
-use Rattle.words.specs.Bytes.{number, IsBlock, part}
+use Rattle.words.specs.Bytes.{number, part}
 use Rattle.fields.specs.Fields.{all-zero, check}
-use Rattle.cipher.specs.Registers.{IsRegisters}
-use Rattle.layout.specs.Block.{Suspended, read}
+use Rattle.layout.specs.Block.{read}
 
 -- "the phase's length"
 abbrev pub phase-length : (phase ad text : ℕ) → ℕ
@@ -45,14 +43,3 @@ every (b ∷ l) = b && every l
 -- whether bytes obey all of them
 abbrev pub well-laid : List ℕ → Bool
 well-laid b = every (rules b)
-
--- what may be written, so that its block obeys the rules
-pub record Fine (k : Suspended) : Type 0 where
-  pub phase-is : k .phase ≤ 1
-  pub ad-fits : k .ad ≤ most-data
-  pub text-fits : k .text ≤ most-text
-  pub text-none : k .phase ≡ 0 → k .text ≡ 0
-  pub registers-good : IsRegisters (k .registers)
-  pub hash-block : IsBlock (k .sum .hash)
-  pub pending-block : IsBlock (k .sum .pending)
-  pub zeros-behind : (i : ℕ) → phase-length (k .phase) (k .ad) (k .text) % 16 ≤ i → getD (k .sum .pending) i 0 ≡ 0

@@ -9,7 +9,8 @@ use lib.Seq.{getD-append-add}
 use Rattle.words.specs.Bytes.{Row, IsBlock, zeros}
 use Rattle.words.proofs.Rows.{Below, zeros-block}
 use Rattle.cipher.specs.Registers.{IsRegisters}
-use Rattle.digest.specs.Digest.{fresh, absorb}
+use Rattle.digest.specs.Sum.{fresh}
+use Rattle.digest.specs.Digest.{absorb}
 use Rattle.ghash.specs.Hash.{rest}
 use Rattle.digest.proofs.Settling.{rest-long, absorb-pending}
 use Rattle.digest.proofs.Preserved.{absorb-hash-block, absorb-pending-block, settled-block}

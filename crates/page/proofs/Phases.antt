@@ -8,7 +8,8 @@ use lib.ListN.{length, length-append}
 use Rattle.words.specs.Bytes.{zeros}
 use Rattle.ghash.specs.Hash.{eat, hashFrom, ghash}
 use Rattle.ghash.proofs.Hashing.{hash-append, hash-one}
-use Rattle.digest.specs.Digest.{Sum, fresh, absorb, settled}
+use Rattle.digest.specs.Sum.{Sum, fresh}
+use Rattle.digest.specs.Digest.{absorb, settled}
 use Rattle.digest.proofs.Settling.{padded-whole, settled-padded}
 use Rattle.page.specs.Page.{padded}
 

@@ -8,7 +8,8 @@ use Rattle.words.specs.Bytes.{zeros}
 use Rattle.ghash.specs.Hash.{hashFrom, ghash, whole-blocks, rest}
 use Rattle.ghash.proofs.Hashing.{hash-append}
 use Rattle.start.specs.Start.{keystream}
-use Rattle.digest.specs.Digest.{Sum, fresh, absorb, settled}
+use Rattle.digest.specs.Sum.{Sum, fresh}
+use Rattle.digest.specs.Digest.{absorb, settled}
 use Rattle.digest.proofs.Pieces.{sum}
 use Rattle.digest.proofs.Settling.{hash-front, absorb-fresh, padded-whole, settled-padded}
 use Rattle.session.specs.Session.{Session}

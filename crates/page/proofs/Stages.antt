@@ -16,7 +16,8 @@ use Rattle.cipher.specs.Registers.{Registers}
 use Rattle.cipher.specs.Step.{step}
 use Rattle.cipher.specs.Run.{forward, move, moves}
 use Rattle.start.specs.Start.{Mode.sealed, start, keystream}
-use Rattle.digest.specs.Digest.{Sum, fresh, push, absorb, settled}
+use Rattle.digest.specs.Sum.{Sum, fresh}
+use Rattle.digest.specs.Digest.{push, absorb, settled}
 use Rattle.digest.proofs.Pieces.{absorb-append, absorb-one}
 use Rattle.session.specs.Session.{Session, ceil16, drawn-at}
 use Rattle.session.specs.Calls.{begun}

@@ -2,7 +2,8 @@
 use mathlib.Core.List.{List}
 use Prim.Native.Nat.{ℕ}
 use lib.ListN.{length}
-use Rattle.digest.specs.Digest.{Sum, absorb}
+use Rattle.digest.specs.Sum.{Sum}
+use Rattle.digest.specs.Digest.{absorb}
 use Rattle.session.specs.Session.{Session}
 use Rattle.session.specs.Pieces.{tag-of}
 

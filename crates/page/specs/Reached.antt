@@ -8,7 +8,7 @@ use lib.ListN.{length, replicate}
 use Rattle.ghash.specs.Hash.{ghash, whole-blocks, rest}
 use Rattle.cipher.specs.Run.{forward, moves}
 use Rattle.start.specs.Start.{Mode.sealed, start, keystream}
-use Rattle.digest.specs.Digest.{Sum}
+use Rattle.digest.specs.Sum.{Sum}
 use Rattle.session.specs.Session.{Session, ceil16, drawn-at}
 use Rattle.page.specs.Page.{cipher-of, padded}
 

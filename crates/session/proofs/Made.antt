@@ -14,7 +14,7 @@ use Rattle.ghash.specs.declared.Element.{Element}
 use Rattle.ghash.proofs.Elements.{Halves, number-bytes}
 use Rattle.cipher.specs.Step.{z}
 use Rattle.cipher.specs.Machine.{registersOf}
-use Rattle.digest.specs.Digest.{fresh}
+use Rattle.digest.specs.Sum.{fresh}
 use Rattle.session.specs.declared.Session as machine
 use Rattle.session.specs.declared.Lane.{Lane}
 use Rattle.session.specs.Session.{Session}

@@ -10,7 +10,8 @@ use borrow.Author.Tests.{eq-eqb, ne-eqb}
 use lib.Dec.{eqb}
 use lib.ListN.{length, drop, length-append}
 use Rattle.scope.specs.Refusals.{pick}
-use Rattle.digest.specs.Digest.{Sum, absorb, settled}
+use Rattle.digest.specs.Sum.{Sum}
+use Rattle.digest.specs.Digest.{absorb, settled}
 use Rattle.digest.proofs.Pieces.{absorb-append}
 use Rattle.session.specs.Session.{Session}
 use Rattle.session.specs.Inner.{told, into-text}

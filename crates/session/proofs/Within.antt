@@ -11,7 +11,8 @@ use lib.Seq.{sets, drop-cons, slice, slice-cons, slice-empty}
 use Rattle.words.specs.Xor.{_⊕_, xors}
 use Rattle.ghash.specs.Hash.{eat}
 use Rattle.cipher.specs.Step.{z, step}
-use Rattle.digest.specs.Digest.{Sum, fresh, absorb}
+use Rattle.digest.specs.Sum.{Sum, fresh}
+use Rattle.digest.specs.Digest.{absorb}
 use Rattle.digest.proofs.Pieces.{absorb-inside, absorb-fills, absorb-block}
 use Rattle.session.specs.Session.{Session}
 use Rattle.session.specs.Pieces.{byte-current, byte-out, byte-taken, text-taken, text-out}

@@ -12,7 +12,7 @@ use Rattle.cipher.specs.Registers.{Registers}
 use Rattle.cipher.specs.Step.{z}
 use Rattle.cipher.specs.Run.{forward, moves}
 use Rattle.start.specs.Start.{Mode.sealed, start, start-number, blank}
-use Rattle.digest.specs.Digest.{fresh}
+use Rattle.digest.specs.Sum.{fresh}
 use Rattle.session.specs.Session.{Session}
 use Rattle.session.specs.Pieces.{data-taken, closed, text-taken, text-out, tag-of}
 

@@ -16,7 +16,7 @@ use Rattle.ghash.specs.Machine.{Tables}
 use Rattle.cipher.specs.Registers.{Registers}
 use Rattle.cipher.specs.Step.{z, step}
 use Rattle.cipher.specs.Machine.{registersOf}
-use Rattle.digest.specs.Digest.{Sum, fresh}
+use Rattle.digest.specs.Sum.{Sum, fresh}
 use Rattle.digest.specs.Machine.{sumOf}
 use Rattle.session.specs.declared.Lane.{Lane}
 use Rattle.session.specs.Session.{Session}

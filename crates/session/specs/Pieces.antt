@@ -9,7 +9,8 @@ use Rattle.scope.specs.Refusals.{pick}
 use Rattle.words.specs.Xor.{_⊕_, xors}
 use Rattle.ghash.specs.Hash.{lengths, eat}
 use Rattle.cipher.specs.Step.{z, step}
-use Rattle.digest.specs.Digest.{fresh, push, absorb, settled}
+use Rattle.digest.specs.Sum.{fresh}
+use Rattle.digest.specs.Digest.{push, absorb, settled}
 use Rattle.session.specs.Session.{Session}
 
 -- ---- data

@@ -2,7 +2,7 @@
 use Prim.Native.Nat.{ℕ, _+_, _/_}
 use mathlib.Core.List.{List}
 use Rattle.cipher.specs.Registers.{Registers}
-use Rattle.digest.specs.Digest.{Sum}
+use Rattle.digest.specs.Sum.{Sum}
 
 pub record Session : Type 0 where
   -- 0 data, 1 text, 2 finished

@@ -19,7 +19,7 @@ use Rattle.start.proofs.Undo.{start-good}
 use Rattle.start.proofs.Tracing.{traces}
 use Rattle.session.specs.Session.{Session, ceil16, drawn-at}
 use Rattle.layout.specs.Block.{registers-at, block-of}
-use Rattle.layout.specs.Rules.{Fine}
+use Rattle.layout.specs.Laws.{Fine}
 use Rattle.layout.proofs.Written.{block-row, block-laid, registers-block, read-block}
 use Rattle.suspend.specs.Calls.{suspended-of, suspend-number, suspend-call, revived, by-origin, resume-call}
 

@@ -1,3 +1,4 @@
+pub mod Sizes
 pub mod SessionLaws
 pub mod Answering
 pub mod PageAnswers

@@ -14,7 +14,8 @@ use Rattle.words.proofs.Writing.{put-next, put-front}
 use Rattle.layout.specs.Block.{registers-bytes, registers-at}
 use Rattle.layout.proofs.RegisterBytes.{good-row, registers-back}
 use Rattle.session.specs.Session.{Session}
-use Rattle.tulvekas.specs.SessionBytes.{session-bytes, session-in, Sized, Leaves}
+use Rattle.tulvekas.specs.SessionBytes.{session-bytes, session-in, Leaves}
+use Rattle.tulvekas.proofs.Sizes.{Sized}
 
 regroup : (f0 f1 f2 f3 f4 f5 f6 f7 f8 r : List ℕ)
     → (f0 ++ f1 ++ f2 ++ f3 ++ f4 ++ f5 ++ f6 ++ f7 ++ f8) ++ r ≡ joined (f0 ∷ f1 ∷ f2 ∷ f3 ∷ f4 ∷ f5 ∷ f6 ∷ f7 ∷ f8 ∷ r ∷ [])

@@ -2,13 +2,12 @@
 -- leaves its form open. Numbers are low byte first; the registers are listed as in a suspended block; a block is 16 bytes. H, the end pad and the
 -- keystream block in use are kept too, so that no call walks back for them. The bytes say nothing but what the session is: one that was suspended
 -- and resumed has the bytes that it had before.
-use Prim.Native.Nat.{ℕ, _^_, _<_}
+use Prim.Native.Nat.{ℕ}
 use mathlib.Core.Path.{_≡_}
 use mathlib.Core.List.{List, _++_}
 use lib.ListN.{getD}
 use Rattle.scope.specs.Refusals.{granted}
-use Rattle.words.specs.Bytes.{little, number, IsBlock, part}
-use Rattle.cipher.specs.Registers.{IsRegisters}
+use Rattle.words.specs.Bytes.{little, number, part}
 use Rattle.layout.specs.Block.{registers-bytes, registers-at}
 use Rattle.session.specs.Session.{Session}
 use Rattle.tulvekas.specs.Order.{buffer-after}
@@ -40,18 +39,6 @@ session-in b =
       current = part 168 16 b;
       sum = record { hash = part 184 16 b; pending = part 200 16 b };
     }
-
--- a session whose parts have their sizes, as every session of the code has
-pub record Sized (s : Session) : Type 0 where
-  pub phase-byte : s .phase < 256
-  pub ad-fits : s .ad < 256 ^ 8
-  pub text-fits : s .text < 256 ^ 8
-  pub registers-good : IsRegisters (s .registers)
-  pub h-block : IsBlock (s .h)
-  pub pad-block : IsBlock (s .pad)
-  pub current-block : IsBlock (s .current)
-  pub hash-block : IsBlock (s .sum .hash)
-  pub pending-block : IsBlock (s .sum .pending)
 
 -- what a call that answers n and gives the session g leaves in a lent session: its bytes, and the session that they then list
 pub record Leaves (n : ℕ) (g : Session) (session after : List ℕ) : Type 0 where

@@ -8,7 +8,8 @@ use lib.Dec.{lit<}
 use lib.ListN.{length}
 use Rattle.words.specs.Xor.{pointwise, xors}
 use Rattle.words.specs.Bytes.{littles, numbers, Row, IsBlock}
-use Rattle.words.specs.Sums.{add32, sub32, wordwise, _⊞_, _⊟_}
+use Rattle.words.specs.Sums.{add32, wordwise, _⊞_}
+use Rattle.words.specs.Differences.{sub32, _⊟_}
 use Rattle.words.proofs.Rows.{pointwise-row, pointwise-comm, pointwise-undone, xors-row, xors-twice}
 use Rattle.words.proofs.Bytes.{littles-long, littles-below, numbers-row, littles-numbers, numbers-littles}
 

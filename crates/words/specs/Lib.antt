@@ -1,4 +1,5 @@
 pub mod Xor
 pub mod Bytes
 pub mod Sums
+pub mod Differences
 pub mod Machine

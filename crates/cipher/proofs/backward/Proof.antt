@@ -6,7 +6,8 @@ use mathlib.Core.List.{List}
 use lib.ListN.{take}
 use Rattle.words.specs.Xor.{xors}
 use Rattle.words.specs.Bytes.{littles}
-use Rattle.words.specs.Sums.{_⊞_, _⊟_}
+use Rattle.words.specs.Sums.{_⊞_}
+use Rattle.words.specs.Differences.{_⊟_}
 use Rattle.lfsr.specs.Clock.{Lfsr}
 use Rattle.cipher.specs.Registers.{IsRegisters}
 use Rattle.cipher.specs.Back.{back, z-before}

@@ -3,7 +3,7 @@ use mathlib.Core.Path.{ap, _∙_}
 use lib.ListN.{length}
 use denote.Ref.{now}
 use Rattle.ghash.proofs.Elements.{Halves}
-use Rattle.digest.specs.Digest.{Sum}
+use Rattle.digest.specs.Sum.{Sum}
 use Rattle.session.specs.Pieces.{tag-of}
 use Rattle.session.proofs.Made.{by-number}
 use Rattle.session.specs.Machine.{sessionOf}

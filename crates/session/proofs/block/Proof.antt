@@ -12,7 +12,7 @@ use Rattle.ghash.proofs.Elements.{Halves}
 use Rattle.cipher.specs.Step.{z}
 use Rattle.cipher.specs.Run.{move, made}
 use Rattle.cipher.specs.Machine.{registersOf}
-use Rattle.digest.specs.Digest.{fresh}
+use Rattle.digest.specs.Sum.{fresh}
 use Rattle.digest.proofs.Slices.{slice-take}
 use Rattle.session.proofs.Made.{by-number}
 use Rattle.session.proofs.block.Statement.{statement}

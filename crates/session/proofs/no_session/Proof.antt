@@ -1,6 +1,6 @@
 -- `session::no_session` meets its contract.
 use mathlib.Core.Path.{ap, _∙_}
-use Rattle.digest.specs.Digest.{fresh}
+use Rattle.digest.specs.Sum.{fresh}
 use borrow.Author.Needs.{needs}
 use Rattle.session.proofs.no_session.Statement.{statement}
 use Rattle.session.proofs.no_session.Tie as tie

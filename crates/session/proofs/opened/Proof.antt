@@ -4,7 +4,7 @@ use Rattle.words.specs.Machine.{bytesOf}
 use Rattle.cipher.specs.Step.{z}
 use Rattle.cipher.specs.Run.{forward, move, made, moves}
 use Rattle.cipher.specs.Machine.{registersOf}
-use Rattle.digest.specs.Digest.{fresh}
+use Rattle.digest.specs.Sum.{fresh}
 use borrow.Author.Needs.{needs}
 use Rattle.session.proofs.opened.Statement.{statement}
 use Rattle.session.proofs.opened.Tie as tie

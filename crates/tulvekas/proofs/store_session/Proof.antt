@@ -10,7 +10,7 @@ use Rattle.cipher.specs.Registers.{IsRegisters}
 use Rattle.cipher.specs.Machine.{registersOf}
 use Rattle.cipher.proofs.Typed.{every-state}
 use Rattle.session.specs.Machine.{sessionOf}
-use Rattle.tulvekas.specs.SessionBytes.{Sized}
+use Rattle.tulvekas.proofs.Sizes.{Sized}
 use Rattle.tulvekas.proofs.SessionLaws.{session-stored}
 use borrow.Author.Needs.{needs}
 use Rattle.tulvekas.proofs.store_session.Statement.{statement}

@@ -1,6 +1,6 @@
 -- `words::minus` meets its contract: each word is the definition's.
 use native.Mathlib.Omega.{arith}
-use Rattle.words.specs.Sums.{sub32, _⊟_}
+use Rattle.words.specs.Differences.{sub32, _⊟_}
 use Rattle.words.proofs.Blocks.{four, is-wordwise}
 use borrow.Author.Needs.{needs}
 use Rattle.words.proofs.minus.Statement.{statement}
