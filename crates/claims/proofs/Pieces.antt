@@ -133,8 +133,7 @@ page key iv l ad text d t cs j =
     (rw (j .text-joins) t) in
     let b = begin-at key iv l in
     let x : after key iv cs .ad ≡ ad = ap (λ (u : Trail). calls (key .list) u cs .ad) b ∙ all .data-is ∙ j .data-joins in
-    let y : after key iv cs .text ≡ text = ap (λ (u : Trail). calls (key .list) u cs .text) b ∙ all .text-is ∙ j .text-joins in
-    (
+    let y : after key iv cs .text ≡ text = ap (λ (u : Trail). calls (key .list) u cs .text) b ∙ all .text-is ∙ j .text-joins in (
       record { answered = λ i. ap (λ (u : Trail). getD (answers (key .list) u cs) i 0) b ∙ all .answered i; data-is = x; text-is = y },
       rw x at (rw y at (any-list key iv l cs)),
     )

@@ -1,2 +1,3 @@
 pub mod CipherThroughC
+pub mod OnBytes
 pub mod ThroughC

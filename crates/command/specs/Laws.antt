@@ -6,7 +6,7 @@ use mathlib.Core.Logic.{_↔_}
 use mathlib.Core.Bool.{true}
 use mathlib.Core.List.{List, [], _∷_, _++_}
 use lib.ListN.{length, take}
-use Rattle.command.specs.Lines.{Lines, Lines.four, Lines.malformed, well-formed, lines-in}
+use Rattle.command.specs.Lines.{Lines.four, Lines.malformed, well-formed, lines-in}
 use Rattle.command.specs.Output.{output}
 
 -- an input that is these four lines, each well formed and ended by byte 0a, and nothing after

@@ -7,7 +7,7 @@ use native.Mathlib.Nat.{sub-zero, zero-sub, suc-sub-suc, zero-add}
 use native.Mathlib.Decide.{ℕ-discrete}
 use native.Mathlib.Omega.{arith}
 use borrow.Author.Tests.{ne-eqb}
-use lib.ListN.{length, take, drop, replicate, length-append, length-drop, length-replicate, take-append-drop}
+use lib.ListN.{length, drop, replicate, length-append, length-drop, length-replicate, take-append-drop}
 use lib.Seq.{sets, sets-eq, length-take-le}
 use Rattle.words.specs.Bytes.{zeros}
 use Rattle.ghash.specs.Hash.{eat, eats, blocks-of, hashFrom, whole-blocks, rest}

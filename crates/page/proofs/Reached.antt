@@ -1,21 +1,20 @@
 -- The session at a stage in closed form: the hash of bytes that arrive one by one is that of their whole blocks, and settled data are the padded data.
 use mathlib.Core.Path.{_≡_, refl, sym, ap, _∙_}
 use mathlib.Core.Bool.{Bool, true, false}
-use mathlib.Core.List.{List, [], _++_}
+use mathlib.Core.List.{List, _++_}
 use Prim.Native.Nat.{ℕ, _-_, _%_}
 use lib.ListN.{length, replicate}
 use Rattle.words.specs.Bytes.{zeros}
-use Rattle.ghash.specs.Hash.{hashFrom, ghash, whole-blocks, rest}
+use Rattle.ghash.specs.Hash.{hashFrom, whole-blocks, rest}
 use Rattle.ghash.proofs.Hashing.{hash-append}
 use Rattle.start.specs.Start.{keystream}
 use Rattle.digest.specs.Sum.{Sum, fresh}
-use Rattle.digest.specs.Digest.{absorb, settled}
+use Rattle.digest.specs.Digest.{absorb}
 use Rattle.digest.proofs.Pieces.{sum}
 use Rattle.digest.proofs.Settling.{hash-front, absorb-fresh, padded-whole, settled-padded}
 use Rattle.session.specs.Session.{Session}
 use Rattle.page.specs.Page.{cipher-of, padded}
-use Rattle.page.specs.Reached.{arrived, sum-of, session-of}
-use Rattle.page.proofs.Phases.{ad-sum}
+use Rattle.page.specs.Reached.{sum-of, session-of}
 use Rattle.page.proofs.Stages.{Stage, Stage.taking-data, Stage.taking-text, ad-of, text-of, phase-at, sum-at, session-at}
 
 -- whether a text piece has closed the data

@@ -1,17 +1,16 @@
 -- The answers of a resume, by the key's length, the layout rules and what the trace finds: which IV leads to the block's registers, or that none does.
-use mathlib.Core.Path.{_≡_, refl, sym, ap, subst, _∙_}
+use mathlib.Core.Path.{_≡_, refl, sym, ap, _∙_}
 use mathlib.Core.Bool.{true, false, true≢false}
 use mathlib.Core.List.{List}
-use Prim.Native.Nat.{ℕ, suc, _+_, _≤_}
+use Prim.Native.Nat.{ℕ, suc, _+_}
 use native.Mathlib.Omega.{arith}
 use borrow.Author.Tests.{eq-eqb, ne-eqb}
 use lib.ListN.{length}
-use Rattle.scope.specs.Limits.{most-blocks}
 use Rattle.words.specs.Bytes.{Row}
 use Rattle.cipher.specs.Registers.{Registers}
 use Rattle.cipher.specs.Run.{forward, backward, made, moves}
 use Rattle.cipher.proofs.Moves.{moves-good, made-again}
-use Rattle.start.specs.Start.{Mode, Mode.plain, Mode.sealed, start, keystream}
+use Rattle.start.specs.Start.{Mode.plain, Mode.sealed, start, keystream}
 use Rattle.start.specs.Leads.{LeadsTo, Traced, Traced.origin, Traced.refused, Traceable, Traces}
 use Rattle.start.specs.Trace.{trace}
 use Rattle.start.proofs.Undo.{start-good}
@@ -19,7 +18,7 @@ use Rattle.session.specs.Session.{ceil16, drawn-at}
 use Rattle.layout.specs.Block.{read}
 use Rattle.layout.specs.Rules.{well-laid}
 use Rattle.layout.proofs.Obeying.{laid-text}
-use Rattle.suspend.specs.Calls.{Resumed, not-resumed, revived, by-origin, resume-call, LeadsToBlock, Revives}
+use Rattle.suspend.specs.Calls.{not-resumed, revived, by-origin, resume-call, LeadsToBlock, Revives}
 
 -- the step before stands the block drawn last
 pub last-drawn : (key iv : List ℕ) → Row 32 256 key → (t : ℕ) {s : Registers} → LeadsTo key (drawn-at t) iv sealed s

@@ -2,7 +2,7 @@
 -- kept, the walk back finds the IV, and H, the end pad and the block drawn last are the keystream's.
 use mathlib.Core.Path.{_≡_, refl, sym, ap, _∙_}
 use mathlib.Core.List.{List, _++_}
-use Prim.Native.Nat.{ℕ, suc, _+_, _≤_}
+use Prim.Native.Nat.{ℕ, _+_, _≤_}
 use native.Mathlib.Omega.{arith}
 use borrow.Author.Tests.{eq-eqb, le-ltb, lt-ltb}
 use lib.ListN.{length, take, drop, length-drop}
@@ -10,12 +10,10 @@ use lib.Seq.{take-at, take-append-le, drop-append-le}
 use Rattle.scope.specs.Refusals.{granted}
 use Rattle.words.specs.Bytes.{Row, IsBlock, part}
 use Rattle.cipher.specs.Step.{z}
-use Rattle.cipher.specs.Run.{forward, backward, made, moves}
-use Rattle.cipher.proofs.Moves.{moves-good, made-again}
+use Rattle.cipher.specs.Run.{forward, moves}
 use Rattle.start.specs.Start.{Mode.sealed, start}
 use Rattle.start.specs.Leads.{Traced.origin}
 use Rattle.start.specs.Trace.{trace}
-use Rattle.start.proofs.Undo.{start-good}
 use Rattle.start.proofs.Tracing.{traces}
 use Rattle.session.specs.Session.{Session, ceil16, drawn-at}
 use Rattle.layout.specs.Block.{registers-at, block-of}

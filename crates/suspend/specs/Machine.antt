@@ -1,5 +1,4 @@
 -- What the code's answer to a resume says, in the terms of the definition.
-use mathlib.Core.Path.{_≡_}
 use Rattle.session.specs.Machine.{sessionOf}
 use Rattle.suspend.specs.declared.Resumed as machine
 use Rattle.suspend.specs.Calls.{Resumed}

@@ -14,11 +14,11 @@ ghost use Rattle.suspended.specs.Machine.{suspendedOf};
 ghost use Rattle.suspend.specs.Calls;
 ghost use Rattle.suspend.specs.Calls.{suspend-call, not-resumed, resume-call, Revives};
 ghost use Rattle.suspend.specs.Machine.{resumedOf};
-use suspended::Suspended;
 use session::Said;
 use session::Session;
 use start::Mode;
 use start::Traced;
+use suspended::Suspended;
 
 // A block to the front of an output. Every other byte stays.
 fn copy(block: [u8; 512], out: &mut [u8])

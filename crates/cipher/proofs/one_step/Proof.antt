@@ -5,7 +5,6 @@ use denote.Ref.{now}
 use Rattle.aes.specs.Tables.{Holds}
 use Rattle.cipher.specs.Inner.{box}
 use Rattle.cipher.specs.Machine.{Moves}
-use borrow.Author.Needs.{needs}
 use Rattle.cipher.proofs.one_step.Statement.{statement}
 use Rattle.cipher.proofs.one_step.Tie as tie
 

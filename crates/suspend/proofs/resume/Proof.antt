@@ -10,7 +10,7 @@ use Rattle.scope.specs.Limits.{most-text}
 use Rattle.words.specs.Bytes.{little}
 use Rattle.cipher.specs.Registers.{Registers}
 use Rattle.cipher.specs.Machine.{registersOf}
-use Rattle.start.specs.Start.{Mode, Mode.sealed}
+use Rattle.start.specs.Start.{Mode.sealed}
 use Rattle.start.specs.Leads.{LeadsTo, Traced.origin, Traces}
 use Rattle.start.specs.Trace.{trace}
 use Rattle.start.specs.Machine.{modeOf, tracedOf}
@@ -109,11 +109,10 @@ revived-requires c κs =
     let x = o .o .given in
     let iv = little 8 (x .0 .0 .lo) ++ little 8 (x .0 .0 .hi) in
     let e = ap tracedOf (x .1) ∙ ap (λ m. origin iv (modeOf m)) (c .before .enum-told3 .given .1) in
-    let l = t .trace .ensures .0 .found iv sealed .0 e in
-    (
+    let l = t .trace .ensures .0 .found iv sealed .0 e in (
       l .0 .0,
       subst (λ (v : List ℕ). LeadsTo (now (a .key)) (drawn-at (r .read .result .text)) v sealed (registersOf (r .read .result .state))) (sym (c .iv-bytes .ensures))
-      (subst (λ (n : ℕ). LeadsTo (now (a .key)) n iv sealed (registersOf (r .read .result .state))) (d .drawn .ensures) (l .1)),
+          (subst (λ (n : ℕ). LeadsTo (now (a .key)) n iv sealed (registersOf (r .read .result .state))) (d .drawn .ensures) (l .1)),
     )
 
 returns-5 : tie.Need-returns-5
