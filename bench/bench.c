@@ -58,7 +58,7 @@ static const struct row {
 
 #define ROWS (sizeof rows / sizeof *rows)
 
-/* The registers and the parked blocks after 2 blocks and after 65,538. */
+/* The registers and the suspended blocks after 2 blocks and after 65,538. */
 static uint8_t near_state[112], far_state[112], near_block[512], far_block[512];
 
 static void fail(const char *what, const char *who)
@@ -124,14 +124,14 @@ static double timed(const struct peer *p, const struct row *r, long times)
 
 /* ---- inputs and checks */
 
-/* A session of so much text, parked. */
-static void park(uint8_t *block, size_t bytes)
+/* A session of so much text, suspended. */
+static void suspend(uint8_t *block, size_t bytes)
 {
     uint8_t session[TULVEKAS_SESSION_BYTES];
     if (tulvekas_begin(key, sizeof key, iv, sizeof iv, session, sizeof session) != 0 ||
         tulvekas_text(session, sizeof session, text, bytes, out, sizeof out) != 0 ||
-        tulvekas_park(session, sizeof session, block, TULVEKAS_PARKED_BYTES) != 0)
-        fail("no parked session", "tulvekas");
+        tulvekas_suspend(session, sizeof session, block, TULVEKAS_SUSPENDED_BYTES) != 0)
+        fail("no suspended session", "tulvekas");
 }
 
 static void fill_inputs(void)
@@ -152,15 +152,15 @@ static void fill_inputs(void)
     memset(expected, 1, sizeof expected);
 }
 
-static void park_sessions(void)
+static void suspend_sessions(void)
 {
-    park(near_block, 0);
-    park(far_block, MOST_TEXT);
+    suspend(near_block, 0);
+    suspend(far_block, MOST_TEXT);
     portable_registers(key, iv, 1, 2, near_state);
     portable_registers(key, iv, 1, 65538, far_state);
     if (memcmp(near_block + TULVEKAS_STATE_AT, near_state, sizeof near_state) != 0 ||
         memcmp(far_block + TULVEKAS_STATE_AT, far_state, sizeof far_state) != 0)
-        fail("the parked registers are not those of the paper's algorithm", "tulvekas");
+        fail("the suspended registers are not those of the paper's algorithm", "tulvekas");
 }
 
 /* All SNOW-V peers give the bytes that the first one gives. */
@@ -191,13 +191,13 @@ static void compare(const struct row *r)
 /* A page with data sealed, opened, and sealed again by pieces. */
 static int sealed_and_opened(void)
 {
-    uint8_t session[TULVEKAS_SESSION_BYTES], block[TULVEKAS_PARKED_BYTES], again[16], kept;
+    uint8_t session[TULVEKAS_SESSION_BYTES], block[TULVEKAS_SUSPENDED_BYTES], again[16], kept;
     return tulvekas_seal(key, sizeof key, iv, sizeof iv, zeros, 100, text, MOST_TEXT, out, sizeof out, tag, sizeof tag) == 0 &&
            tulvekas_open(key, sizeof key, iv, sizeof iv, zeros, 100, out, MOST_TEXT, tag, sizeof tag, expected, sizeof expected) == 0 &&
            memcmp(expected, text, MOST_TEXT) == 0 && tulvekas_begin(key, sizeof key, iv, sizeof iv, session, sizeof session) == 0 &&
            tulvekas_data(session, sizeof session, zeros, 100) == 0 &&
            tulvekas_text(session, sizeof session, text, MOST_TEXT, expected, sizeof expected) == 0 &&
-           tulvekas_park(session, sizeof session, block, sizeof block) == 0 &&
+           tulvekas_suspend(session, sizeof session, block, sizeof block) == 0 &&
            tulvekas_finish(session, sizeof session, again, sizeof again) == 0 && memcmp(expected, out, MOST_TEXT) == 0 &&
            memcmp(again, tag, sizeof tag) == 0 && tulvekas_kept(0, 0, &kept, 1) == 0;
 }
@@ -408,7 +408,7 @@ int main(int argc, char **argv)
         serve();
         return 0;
     }
-    park_sessions();
+    suspend_sessions();
     if (argc == 5 && strcmp(argv[1], "once") == 0)
         return once(argv[2], argv[3], (size_t)strtoul(argv[4], NULL, 10));
     return measure(argv[0], rounds == NULL || atoi(rounds) < 1 ? ROUNDS : atoi(rounds));

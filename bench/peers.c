@@ -27,7 +27,7 @@ static int ours_trace(uint8_t *found, const uint8_t *state, uint64_t count)
 static int ours_resume(uint8_t *found, const uint8_t *block)
 {
     uint8_t session[TULVEKAS_SESSION_BYTES];
-    return tulvekas_take_up(key, sizeof key, block, TULVEKAS_PARKED_BYTES, session, sizeof session, found, 16) != 0;
+    return tulvekas_resume(key, sizeof key, block, TULVEKAS_SUSPENDED_BYTES, session, sizeof session, found, 16) != 0;
 }
 
 uint64_t measure_run(const uint8_t *key, size_t key_len, const uint8_t *iv, size_t iv_len, uint64_t back, uint8_t *out, size_t out_len);
@@ -60,7 +60,7 @@ static int hand_trace(uint8_t *found, const uint8_t *state, uint64_t count)
 static int hand_resume(uint8_t *found, const uint8_t *block)
 {
     uint8_t session[TULVEKAS_SESSION_BYTES];
-    return same_take_up(key, block, session, found) != 0;
+    return same_resume(key, block, session, found) != 0;
 }
 
 /* ---- the paper's portable algorithm in C, which has no way back */
@@ -84,7 +84,7 @@ uint64_t reference_keystream(const uint8_t *key, const uint8_t *iv, uint64_t sea
 uint64_t reference_seal(const uint8_t *key, const uint8_t *iv, const uint8_t *ad, size_t ad_len, const uint8_t *text, size_t text_len,
                         uint8_t *out, uint8_t *tag);
 uint64_t reference_trace(const uint8_t *state, const uint8_t *key, uint64_t count, uint8_t *iv, uint8_t *sealed);
-uint64_t reference_take_up(const uint8_t *key, const uint8_t *block, uint8_t *iv);
+uint64_t reference_resume(const uint8_t *key, const uint8_t *block, uint8_t *iv);
 
 static int rust_keystream(uint8_t *out, size_t bytes)
 {
@@ -104,7 +104,7 @@ static int rust_trace(uint8_t *found, const uint8_t *state, uint64_t count)
 
 static int rust_resume(uint8_t *found, const uint8_t *block)
 {
-    return reference_take_up(key, block, found) != 0;
+    return reference_resume(key, block, found) != 0;
 }
 
 #endif

@@ -19,7 +19,7 @@ struct peer {
     int (*keystream)(uint8_t *out, size_t bytes);
     /* The front of the text sealed, with no associated data. */
     int (*seal)(uint8_t *out, uint8_t *tag, size_t bytes);
-    /* The IV from 112 bytes of registers, or from a parked block of 512, `count` blocks after the start. */
+    /* The IV from 112 bytes of registers, or from a suspended block of 512, `count` blocks after the start. */
     int (*trace)(uint8_t *found, const uint8_t *state, uint64_t count);
     int (*resume)(uint8_t *found, const uint8_t *block);
     /* Blocks back from the start. */

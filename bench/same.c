@@ -626,7 +626,7 @@ uint64_t same_trace(const uint8_t *state, const uint8_t *key, uint64_t count, ui
     return 0;
 }
 
-uint64_t same_take_up(const uint8_t *key, const uint8_t *block, uint8_t *session, uint8_t *iv)
+uint64_t same_resume(const uint8_t *key, const uint8_t *block, uint8_t *session, uint8_t *iv)
 {
     struct session s;
     struct state t;

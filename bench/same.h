@@ -18,6 +18,6 @@ void same_seal(const uint8_t *key, const uint8_t *iv, const uint8_t *ad, size_t 
 uint64_t same_trace(const uint8_t *state, const uint8_t *key, uint64_t count, uint8_t *iv, uint8_t *sealed);
 
 /* 0 and the session that a block of 512 bytes was written for, with its IV, or 8 or 6. */
-uint64_t same_take_up(const uint8_t *key, const uint8_t *block, uint8_t *session, uint8_t *iv);
+uint64_t same_resume(const uint8_t *key, const uint8_t *block, uint8_t *session, uint8_t *iv);
 
 #endif

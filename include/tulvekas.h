@@ -1,7 +1,6 @@
-/* Tulvekas for C and everything that calls C: SNOW-V sealing of guest pages.
+/* Tulvekas for C and everything that calls C: SNOW-V sealing of guest pages. This page is the manual.
  *
- * Every call here is proved to answer and to write exactly what this page says, for every input; docs/PROMISES.md of the repository has the
- * statements.
+ * For Linux on x86-64, and for no other system: link with libtulvekas.a, which `rt staticlib tulvekas` writes to target/staticlib/.
  *
  * How to read it
  *   - A slice is a pointer and a length in bytes. One that is only read is `const`. A pointer whose length is 0 is never used and may be NULL;
@@ -11,11 +10,22 @@
  *     no earlier one in the call's order does. A refusal changes no lent byte.
  *   - A lent buffer may be longer than what is written. Bytes beyond what a call writes never change.
  *   - Nothing is kept between calls but what the caller was handed, and no memory is claimed: calls from several threads do not meet, as long
- *     as no two of them write one buffer. No call takes more than 16 KiB of stack, and none recurs.
+ *     as no buffer that one of them writes is lent to another.
  *   - Not hidden: the time that a call takes depends on the key and on the bytes, by table look-ups.
  *   - Each stay needs an IV of its own under a key. Two pages under one key and one IV give away the difference of their texts.
+ *   - Document 01, which this library was written to, says stay number for the IV, park for suspend, take up for resume, and parked block for
+ *     suspended block.
  *
- * Link with libtulvekas.a, which `rt staticlib tulvekas` writes to target/staticlib/.
+ * What is proved, and what is not
+ *   - Proved of every call, for every length and every content: the number that it answers; each byte that it writes; that every other byte of
+ *     the buffers lent to it stays as it was; that it ends, and stays inside those buffers. Ciphertext and tag are those of definitions that
+ *     render the paper, by pieces as well; a session resumed is the one suspended; a trace finds the IV and mode that led to a state, and 6
+ *     exactly if none did. docs/PROMISES.md has the statements, and what they assume.
+ *   - Tested: that this page and the code agree. tests/differential compares every call with an implementation in Rust that was written from
+ *     the documents, and the declarations and numbers below with those that the tests use.
+ *   - Measured: the stack. No call of tests/differential takes more than 16 KiB of it.
+ *   - Read off the code: no function calls itself, directly or by way of others; none claims memory or has a variable that outlives the call;
+ *     tulvekas_open compares all 16 bytes of the tag before it writes a byte.
  */
 #ifndef TULVEKAS_H
 #define TULVEKAS_H
@@ -29,19 +39,19 @@ extern "C" {
 
 /* Lengths, in bytes. */
 #define TULVEKAS_KEY_BYTES 32
-#define TULVEKAS_IV_BYTES 16 /* the stay number */
+#define TULVEKAS_IV_BYTES 16
 #define TULVEKAS_TAG_BYTES 16
-#define TULVEKAS_BLOCK_BYTES 16    /* of keystream */
-#define TULVEKAS_SESSION_BYTES 216 /* a session between two calls; its contents are secret */
-#define TULVEKAS_PARKED_BYTES 512  /* a parked session; secret too */
-#define TULVEKAS_STATE_BYTES 112   /* a cipher state: bytes 16 to 127 of a parked session */
+#define TULVEKAS_BLOCK_BYTES 16      /* of keystream */
+#define TULVEKAS_SESSION_BYTES 216   /* a session between two calls; its contents are secret */
+#define TULVEKAS_SUSPENDED_BYTES 512 /* a suspended block; secret too */
+#define TULVEKAS_STATE_BYTES 112     /* a cipher state: bytes 16 to 127 of a suspended block */
 #define TULVEKAS_STATE_AT 16
 
 /* Limits. */
 #define TULVEKAS_MOST_DATA 65535     /* bytes of associated data of a page or session */
 #define TULVEKAS_MOST_TEXT 1048576   /* bytes of text */
 #define TULVEKAS_MOST_BLOCKS 65538   /* blocks of keystream */
-#define TULVEKAS_LAST_DAY 73048      /* days count from 1 January 2000 as 0 */
+#define TULVEKAS_LAST_DAY 73048      /* 31 December 2199; days count from 1 January 2000 as 0 */
 #define TULVEKAS_KEPT_DAYS 548       /* that a page is kept behind its departure */
 
 /* What a call answers. */
@@ -51,15 +61,26 @@ extern "C" {
 #define TULVEKAS_TOO_LONG 3        /* associated data over 65,535 bytes or text over 1,048,576, counted over the session */
 #define TULVEKAS_SHORT_OUTPUT 4    /* a lent buffer is shorter than what must be written */
 #define TULVEKAS_BAD_TAG 5         /* the tag is not the page's */
-#define TULVEKAS_NO_ORIGIN 6       /* no IV and mode lead to this state; at take up, none in sealed mode */
+#define TULVEKAS_NO_ORIGIN 6       /* no IV and mode lead to this state; at resume, none in sealed mode */
 #define TULVEKAS_OUT_OF_PHASE 7    /* data behind text, or anything behind finish */
-#define TULVEKAS_BAD_BLOCK 8       /* a parked block breaks a rule of its layout; a session or state has another length than above */
+#define TULVEKAS_BAD_BLOCK 8       /* a suspended block breaks a rule of its layout; a session or state has another length than above */
 #define TULVEKAS_COUNT_TOO_HIGH 9  /* more than 65,538 blocks */
 #define TULVEKAS_TAG_LENGTH 10     /* tag not 16 bytes */
 #define TULVEKAS_MALFORMED 11      /* the input of the program `seal` is malformed; no call here gives it */
 #define TULVEKAS_DAY_RANGE 12      /* a day outside 0 to 73,048 */
 
-/* ---- whole pages */
+/* ---- whole pages
+ *
+ * A page is a text, which is encrypted, and associated data, which is not: the caller keeps it readable, and the tag covers both. Sealed and
+ * opened, with text, ad and other as arrays of bytes:
+ *
+ *     tulvekas_seal(key, sizeof key, iv, sizeof iv, ad, sizeof ad, text, sizeof text, cipher, sizeof cipher, tag, sizeof tag)
+ *     tulvekas_open(key, sizeof key, iv, sizeof iv, ad, sizeof ad, cipher, sizeof cipher, tag, sizeof tag, opened, sizeof opened)
+ *     tulvekas_open(key, sizeof key, iv, sizeof iv, other, sizeof other, cipher, sizeof cipher, tag, sizeof tag, opened, sizeof opened)
+ *
+ * The first two answer 0, and opened is the text. The third, under other data, answers 5 and writes nothing: the page has another tag then, but
+ * for an accident as rare as a tag that is guessed. A page without associated data has NULL and 0 in its place.
+ * examples/seal_by_pieces.c makes these calls, and those by pieces below. */
 
 /* Seals a page.
  * Writes: text_len bytes of ciphertext to the front of out, 16 bytes of tag to the front of tag.
@@ -67,7 +88,7 @@ extern "C" {
 uint64_t tulvekas_seal(const uint8_t *key, size_t key_len, const uint8_t *iv, size_t iv_len, const uint8_t *ad, size_t ad_len,
                        const uint8_t *text, size_t text_len, uint8_t *out, size_t out_len, uint8_t *tag, size_t tag_len);
 
-/* Opens a page, if the tag is the right one; all 16 bytes of it are compared, and no byte is written before they agree.
+/* Opens a page, if the tag is that of this key, IV, associated data and ciphertext. If it differs in a single bit, nothing is written.
  * Writes: cipher_len bytes of text to the front of out.
  * Refuses: 1, 2, 10, 3 (the ciphertext's length counts as the text's), 4, 5. */
 uint64_t tulvekas_open(const uint8_t *key, size_t key_len, const uint8_t *iv, size_t iv_len, const uint8_t *ad, size_t ad_len,
@@ -75,9 +96,15 @@ uint64_t tulvekas_open(const uint8_t *key, size_t key_len, const uint8_t *iv, si
 
 /* ---- a page by pieces: begin, data pieces, text pieces, finish. However a page is cut, ciphertext and tag are those of tulvekas_seal.
  *
+ *     tulvekas_begin(key, sizeof key, iv, sizeof iv, session, sizeof session)
+ *     tulvekas_data(session, sizeof session, ad, 3)
+ *     tulvekas_data(session, sizeof session, ad + 3, sizeof ad - 3)
+ *     tulvekas_text(session, sizeof session, text, sizeof text, cipher, sizeof cipher)
+ *     tulvekas_finish(session, sizeof session, tag, sizeof tag)
+ *
  * A session is TULVEKAS_SESSION_BYTES bytes that the caller keeps and hands to each call, in that length exactly. They hold nothing but the
- * session: they may be copied or moved, and the same session always has the same bytes. They hold the key's traces, so wipe them when done.
- * Bytes that no call wrote are answered like a session, with no promise but that. */
+ * session: they may be copied or moved, and the same session always has the same bytes. Whoever reads them can decrypt the page and make its
+ * tag, without the key: wipe them when done. Bytes that no call wrote are answered like a session, with no promise but that. */
 
 /* Begins a session.
  * Writes: 216 bytes to the front of session.
@@ -99,16 +126,39 @@ uint64_t tulvekas_text(uint8_t *session, size_t session_len, const uint8_t *piec
  * Refuses: 8 (session not 216 bytes), 7, 4. */
 uint64_t tulvekas_finish(uint8_t *session, size_t session_len, uint8_t *tag, size_t tag_len);
 
-/* Parks a session that is not finished: writes what is needed to take it up again later, elsewhere, with the key. The session goes on as it was.
+/* ---- a session suspended and resumed
+ *
+ * A suspended block is what is needed to go on with a session later and elsewhere, with the key: TULVEKAS_SUSPENDED_BYTES bytes, numbers low
+ * byte first.
+ *
+ *     bytes      what stands there
+ *     0          phase: 0 data, 1 text
+ *     4-7        data length: bytes of associated data so far
+ *     8-11       text length: bytes of text so far
+ *     16-47      register A: cells a0 to a15, 2 bytes each
+ *     48-79      register B: cells b0 to b15
+ *     80-127     R1, R2, R3, 16 bytes each
+ *     128-143    hash so far
+ *     144-159    bytes not yet hashed, from the left
+ *     508-511    check: the sum modulo 2^32 of the 127 words of 32 bits before
+ *     others     zero
+ *
+ * Its rules: 512 bytes as in the table, with the check right; phase 0 or 1; both lengths within their limits, and the text length 0 in phase 0;
+ * of bytes 144-159 those after the first n zero, n being the phase's length modulo 16. The check is against accidents and not against forgery.
+ * Whoever reads a suspended block can decrypt the page and make its tag, without the key. */
+
+/* Suspends a session that is not finished. The session goes on as it was.
  * Writes: 512 bytes to the front of block. Never the session.
  * Refuses: 8 (session not 216 bytes), 7, 4. */
-uint64_t tulvekas_park(const uint8_t *session, size_t session_len, uint8_t *block, size_t block_len);
+uint64_t tulvekas_suspend(const uint8_t *session, size_t session_len, uint8_t *block, size_t block_len);
 
-/* Takes a parked session up: the bytes of the very session that was parked, and its IV, found by walking the cipher back.
+/* Resumes a session: from the block that tulvekas_suspend wrote and the key that the session began with, the very bytes of that session, and its
+ * IV, found by walking the cipher back. In a block that somebody changed, only what breaks a rule or leads to no IV is found out: the hash so
+ * far and the bytes not yet hashed are taken as they stand.
  * Writes: 216 bytes to the front of session, 16 to the front of iv.
- * Refuses: 1, 8 (block not 512 bytes, or a rule of its layout broken), 6, 4 (either buffer). */
-uint64_t tulvekas_take_up(const uint8_t *key, size_t key_len, const uint8_t *block, size_t block_len, uint8_t *session, size_t session_len,
-                          uint8_t *iv, size_t iv_len);
+ * Refuses: 1, 8 (block not 512 bytes, or another of its rules broken), 6, 4 (either buffer). */
+uint64_t tulvekas_resume(const uint8_t *key, size_t key_len, const uint8_t *block, size_t block_len, uint8_t *session, size_t session_len,
+                         uint8_t *iv, size_t iv_len);
 
 /* ---- the cipher */
 
@@ -118,13 +168,21 @@ uint64_t tulvekas_take_up(const uint8_t *key, size_t key_len, const uint8_t *blo
  * Refuses: 1, 2, 9 (more than 65,538 blocks fit). */
 uint64_t tulvekas_keystream(const uint8_t *key, size_t key_len, const uint8_t *iv, size_t iv_len, uint64_t sealed, uint8_t *out, size_t out_len);
 
-/* Finds the one IV and mode that lead to a cipher state under a key after count blocks. The state is bytes 16 to 127 of a parked session.
+/* Finds the one IV and mode that lead to a cipher state under a key after count blocks. The state is bytes 16 to 127 of a suspended block. A
+ * session has drawn 2 + (t + 15) / 16 blocks, t being its text length.
  * Writes: 16 bytes to the front of iv; 0 (plain mode) or 1 (sealed mode) to the first byte of sealed.
  * Refuses: 1, 8 (state not 112 bytes), 9 (count over 65,538), 6, 4 (iv shorter than 16, or sealed shorter than 1). */
 uint64_t tulvekas_trace(const uint8_t *state, size_t state_len, const uint8_t *key, size_t key_len, uint64_t count, uint8_t *iv, size_t iv_len,
                         uint8_t *sealed, size_t sealed_len);
 
-/* ---- keeping */
+/* ---- keeping
+ *
+ * A day is a number: the days since 1 January 2000, which is day 0. A date in year y, n days after 1 January of that year, is day
+ *
+ *     365 * (y - 2000) + (y - 1997) / 4 - (y > 2100) + n
+ *
+ * by C's integer division, for the years 2000 to 2199. So 15 November 2026, 318 days after 1 January 2026, is day 9490 + 7 - 0 + 318 = 9815. A page
+ * of that departure is kept up to day 10363, which is 16 May 2028: tulvekas_kept(10363, 9815, &kept, 1) writes 1, and with 10364 it writes 0. */
 
 /* Whether a page is kept today: exactly when today minus departure is at most 548, a departure still to come included.
  * Writes: 1 (kept) or 0 (not) to the first byte of kept.

@@ -75,7 +75,7 @@ module _ (s : List ℕ) (long : length s ≡ 216) {u : Session} (e : u ≡ sessi
     pub finish-right : 16 ≤ length tag → 0 ≡ finish-answer s tag
     finish-right k = fits 16 tag 0 k ∙ finish-room
 
--- ---- take up
+-- ---- resume
 
 module _ (key b s iv : List ℕ) {n : ℕ} (e : n ≡ resume-call key b .number) where
   pub resume-refused : ¬ (n ≡ 0) → n ≡ resume-answer key b s iv

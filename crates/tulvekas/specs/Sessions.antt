@@ -54,7 +54,7 @@ finish-leaves s tag after = Leaves (finish-answer s tag) (finish-call (session-i
 abbrev pub finish-writes : (session tag : List ℕ) → List ℕ
 finish-writes s tag = buffer-after (finish-answer s tag) 16 (finish-call (session-in s) .out) tag
 
--- ---- park: 8, 7, 4. The session is only read
+-- ---- suspend: 8, 7, 4. The session is only read
 
 unfoldable pub suspend-answer : (session block : List ℕ) → ℕ
 suspend-answer s b = whole s (suspend-call (session-in s) b .number)
@@ -62,7 +62,7 @@ suspend-answer s b = whole s (suspend-call (session-in s) b .number)
 abbrev pub suspend-writes : (session block : List ℕ) → List ℕ
 suspend-writes s b = granted (suspend-answer s b) (suspend-call (session-in s) b .out) b
 
--- ---- take up: 1, 8, 6, 4 for either buffer
+-- ---- resume: 1, 8, 6, 4 for either buffer
 
 unfoldable pub resume-answer : (key block session iv : List ℕ) → ℕ
 resume-answer key b s iv = next (resume-call key b .number) (room 216 s (room 16 iv 0))

@@ -7,9 +7,9 @@ use crate::block::Block;
 use crate::cipher::{iv as iv_of, run, Key, Mode, State, MOST_BLOCKS};
 use crate::keeping;
 use crate::page;
-use crate::parked;
 use crate::refusal::{require, Refusal};
 use crate::session::Session;
+use crate::suspended;
 use crate::trace;
 
 /// `TULVEKAS_SESSION_BYTES`.
@@ -74,15 +74,15 @@ pub fn finish(session: &mut Session, session_len: usize, tag: &mut [u8]) -> Answ
     Ok(())
 }
 
-/// `tulvekas_park`: 8, 7, 4.
-pub fn park(session: &Session, session_len: usize, block: &mut [u8]) -> Answer<()> {
+/// `tulvekas_suspend`: 8, 7, 4.
+pub fn suspend(session: &Session, session_len: usize, block: &mut [u8]) -> Answer<()> {
     whole_session(session_len)?;
-    parked::park(session, block)
+    suspended::suspend(session, block)
 }
 
-/// `tulvekas_take_up`: 1, 8, 6, 4.
-pub fn take_up(key: &[u8], block: &[u8], session_len: usize, iv: &mut [u8]) -> Answer<Session> {
-    let (session, found) = parked::take_up(key, block)?;
+/// `tulvekas_resume`: 1, 8, 6, 4.
+pub fn resume(key: &[u8], block: &[u8], session_len: usize, iv: &mut [u8]) -> Answer<Session> {
+    let (session, found) = suspended::resume(key, block)?;
     room(session_len, SESSION_BYTES)?;
     room(iv.len(), 16)?;
     iv[..16].copy_from_slice(&found);

@@ -190,7 +190,7 @@ impl State {
         [Mode::Plain, Mode::Sealed].into_iter().find(|mode| self == State::load(key, &iv, *mode)).map(|mode| (iv, mode))
     }
 
-    /// The 112 bytes that a parked block has at 16 to 127 (document 01, "Sessions and parking").
+    /// The 112 bytes that a suspended block has at 16 to 127 (document 01, "Sessions and parking").
     pub fn to_bytes(&self) -> [u8; 112] {
         let mut bytes = [0; 112];
         for (i, cell) in self.a.iter().chain(&self.b).enumerate() {

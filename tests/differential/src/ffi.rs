@@ -1,10 +1,10 @@
-//! What a benchmark calls. Keys have 32 bytes, IVs and tags 16, states 112 and parked sessions 512; each call answers 0 or the number
+//! What a benchmark calls. Keys have 32 bytes, IVs and tags 16, states 112 and suspended blocks 512; each call answers 0 or the number
 //! of a refusal.
 
 use crate::calls::{self, mode};
 use crate::cipher::{run, Key, State};
 use crate::refusal::{number, Refusal};
-use crate::{page, parked};
+use crate::{page, suspended};
 use std::slice::{from_raw_parts, from_raw_parts_mut};
 
 /// A pointer with a length of 0 may be anything in C, not so in a slice.
@@ -59,7 +59,7 @@ pub unsafe extern "C" fn reference_seal(
     number(&sealed.map(|made| written(tag, 16).copy_from_slice(&made)))
 }
 
-/// The state right after the start, as a parked session lists it.
+/// The state right after the start, as a suspended block lists it.
 ///
 /// # Safety
 /// `state` points to 112 bytes.
@@ -77,14 +77,14 @@ pub unsafe extern "C" fn reference_trace(state: *const u8, key: *const u8, count
     number(&calls::trace(read(state, 112), read(key, 32), count, written(iv, 16), written(sealed, 1)))
 }
 
-/// Takes a parked session up and gives its IV; refuses 8, 6.
+/// Resumes a suspended session and gives its IV; refuses 8, 6.
 ///
 /// # Safety
 /// `block` points to 512 bytes, `iv` to 16.
 #[no_mangle]
-pub unsafe extern "C" fn reference_take_up(key: *const u8, block: *const u8, iv: *mut u8) -> u64 {
-    let taken = parked::take_up(read(key, 32), read(block, 512));
-    number(&taken.map(|(session, found)| {
+pub unsafe extern "C" fn reference_resume(key: *const u8, block: *const u8, iv: *mut u8) -> u64 {
+    let resumed = suspended::resume(read(key, 32), read(block, 512));
+    number(&resumed.map(|(session, found)| {
         // The session is what the walk is made for; without this a compiler may leave parts of it out.
         std::hint::black_box(&session);
         written(iv, 16).copy_from_slice(&found);

@@ -14,17 +14,17 @@ pub enum Refusal {
     ShortOutput = 4,
     /// "seal broken": tag differs.
     BadTag = 5,
-    /// "not ours": no IV and mode lead to this state; at take up, none in sealed mode.
+    /// "not ours": no IV and mode lead to this state; at resume, none in sealed mode.
     NoOrigin = 6,
     /// "late entry": call out of phase.
     OutOfPhase = 7,
-    /// "torn block": parked block breaks a layout rule.
+    /// "torn block": a suspended block breaks a layout rule.
     BadBlock = 8,
     /// "too far": block count over 65,538.
     CountTooHigh = 9,
     /// "cut seal": tag not 16 bytes.
     TagLength = 10,
-    /// "unreadable": input of the program malformed; no call here gives it.
+    /// "unreadable": input of the program malformed; no call of the header gives it.
     Malformed = 11,
     /// "no such day": day outside 0 to 73,048.
     DayRange = 12,

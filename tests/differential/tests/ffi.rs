@@ -1,9 +1,9 @@
 //! What a benchmark calls gives what the modules give.
 
 use reference::cipher::{iv, Key, Mode, State};
-use reference::ffi::{reference_keystream, reference_seal, reference_start, reference_take_up, reference_trace};
+use reference::ffi::{reference_keystream, reference_resume, reference_seal, reference_start, reference_trace};
 use reference::session::Session;
-use reference::{page, parked};
+use reference::{page, suspended};
 
 const KEY: [u8; 32] = [0x5a; 32];
 const IV: [u8; 16] = [0xa5; 16];
@@ -33,7 +33,7 @@ fn keystream_and_start() {
 }
 
 #[test]
-fn seal_and_take_up() {
+fn seal_and_resume() {
     let (ad, text) = ([1; 21], [2; 39]);
     let (mut cipher, mut tag) = ([0; 39], [0; 16]);
     let (a, t) = (ad.as_ptr(), text.as_ptr());
@@ -46,9 +46,9 @@ fn seal_and_take_up() {
     let mut session = Session::begin(&KEY, &IV).unwrap();
     session.text(&text, &mut whole).unwrap();
     let (mut block, mut found) = ([0; 512], [0; 16]);
-    parked::park(&session, &mut block).unwrap();
-    assert_eq!(unsafe { reference_take_up(KEY.as_ptr(), block.as_ptr(), found.as_mut_ptr()) }, 0);
+    suspended::suspend(&session, &mut block).unwrap();
+    assert_eq!(unsafe { reference_resume(KEY.as_ptr(), block.as_ptr(), found.as_mut_ptr()) }, 0);
     assert_eq!(found, IV);
     block[1] = 1;
-    assert_eq!(unsafe { reference_take_up(KEY.as_ptr(), block.as_ptr(), found.as_mut_ptr()) }, 8);
+    assert_eq!(unsafe { reference_resume(KEY.as_ptr(), block.as_ptr(), found.as_mut_ptr()) }, 8);
 }

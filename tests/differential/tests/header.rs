@@ -1,11 +1,13 @@
-//! The declarations and numbers that the tests use are those of include/tulvekas.h, and none of its calls is left out.
+//! The declarations and numbers that the tests use are those of include/tulvekas.h, and none of its calls is left out. The calls that it shows
+//! are made by the example, and its days are those of the calendar.
 
 use reference::refusal::Refusal;
-use reference::{calls, cipher, keeping, page, parked};
+use reference::{calls, cipher, keeping, page, suspended};
 use std::collections::BTreeMap;
 
 const HEADER: &str = include_str!("../../../include/tulvekas.h");
 const DECLARATIONS: &str = include_str!("differential/library.rs");
+const EXAMPLE: &str = include_str!("../../../examples/seal_by_pieces.c");
 
 /// Each call with its parameters as Rust writes them.
 type Calls = BTreeMap<String, Vec<String>>;
@@ -64,7 +66,7 @@ fn numbers_are_those_of_the_header() {
         ("TAG_BYTES", 16),
         ("BLOCK_BYTES", 16),
         ("SESSION_BYTES", calls::SESSION_BYTES as u64),
-        ("PARKED_BYTES", parked::PARKED_BYTES as u64),
+        ("SUSPENDED_BYTES", suspended::SUSPENDED_BYTES as u64),
         ("STATE_BYTES", calls::STATE_BYTES as u64),
         ("STATE_AT", 16),
         ("MOST_DATA", page::MOST_DATA),
@@ -87,4 +89,50 @@ fn numbers_are_those_of_the_header() {
         ("DAY_RANGE", Refusal::DayRange as u64),
     ]);
     assert_eq!(defined, expected);
+}
+
+/// The text with one space between two words, and no star in front of a line.
+fn words(text: &str) -> String {
+    let lines = text.lines().map(|line| line.strip_prefix(" *").unwrap_or(line));
+    lines.flat_map(str::split_whitespace).collect::<Vec<_>>().join(" ")
+}
+
+#[test]
+fn shown_calls_are_those_of_the_example() {
+    let example = words(EXAMPLE);
+    let indented = HEADER.lines().filter_map(|line| line.strip_prefix(" *     "));
+    let shown: Vec<_> = indented.filter(|line| line.starts_with("tulvekas_") && line.ends_with(')')).collect();
+    assert_eq!(shown.len(), 8);
+    for call in shown {
+        assert!(example.contains(call), "{call}");
+    }
+}
+
+/// The header's formula, at every day from 1 January 2000 to the last, and its example.
+#[test]
+fn days_are_those_of_the_calendar() {
+    let header = words(HEADER);
+    assert!(header.contains("365 * (y - 2000) + (y - 1997) / 4 - (y > 2100) + n"));
+    let mut day = 0;
+    let mut named = BTreeMap::new();
+    for y in 2000..=2199_u64 {
+        let leap = y % 4 == 0 && (y % 100 != 0 || y % 400 == 0);
+        let months = [31, if leap { 29 } else { 28 }, 31, 30, 31, 30, 31, 31, 30, 31, 30, 31];
+        let mut n = 0;
+        for (month, length) in (1..).zip(months) {
+            for date in 1..=length {
+                assert_eq!(365 * (y - 2000) + (y - 1997) / 4 - u64::from(y > 2100) + n, day);
+                named.insert((y, month, date), (day, n));
+                (day, n) = (day + 1, n + 1);
+            }
+        }
+    }
+    assert_eq!(named[&(2199, 12, 31)].0, keeping::LAST_DAY);
+    let (departure, n) = named[&(2026, 11, 15)];
+    assert!(header.contains(&format!("15 November 2026, {n} days after 1 January 2026, is day 9490 + 7 - 0 + {n} = {departure}.")));
+    assert_eq!(9490 + 7 + n, departure);
+    let (last, _) = named[&(2028, 5, 16)];
+    assert!(header.contains(&format!("day {last}, which is 16 May 2028: tulvekas_kept({last}, {departure}, &kept, 1) writes 1")));
+    assert!(header.contains(&format!("with {} it writes 0", last + 1)));
+    assert_eq!((keeping::kept(last, departure), keeping::kept(last + 1, departure)), (Ok(true), Ok(false)));
 }

@@ -4,7 +4,7 @@
 use reference::block::{xor, Block};
 use reference::cipher::{iv, Key, Mode, State};
 use reference::session::Session;
-use reference::{calls, ghash, page, parked, trace};
+use reference::{calls, ghash, page, suspended, trace};
 
 /// Listing 2.
 struct Keystream {
@@ -245,18 +245,18 @@ fn page_vectors_whole() {
     }
 }
 
-/// Every way to cut data and text in two, parked and taken up behind each piece.
+/// Every way to cut data and text in two, suspended and resumed behind each piece.
 #[test]
 fn page_vectors_by_pieces() {
     for vector in &PAGES {
         let (key, iv, aad, plain) = (bytes(vector.key), bytes(vector.iv), bytes(vector.aad), bytes(vector.plain));
         let again = |session: Session| {
             let mut stored = [0; 512];
-            parked::park(&session, &mut stored).unwrap();
-            let (taken, found) = parked::take_up(&key, &stored).unwrap();
+            suspended::suspend(&session, &mut stored).unwrap();
+            let (resumed, found) = suspended::resume(&key, &stored).unwrap();
             assert_eq!(found[..], iv);
-            assert_eq!(taken, session);
-            taken
+            assert_eq!(resumed, session);
+            resumed
         };
         for data_cut in 0..=aad.len() {
             for text_cut in 0..=plain.len() {

@@ -2,7 +2,7 @@
 //! refusal, nothing written outside, and the same for the same bytes.
 
 use crate::lent::Lent;
-use crate::library::{tulvekas_data, tulvekas_finish, tulvekas_park, tulvekas_text};
+use crate::library::{tulvekas_data, tulvekas_finish, tulvekas_suspend, tulvekas_text};
 use crate::tester::{Tester, SESSION_BYTES};
 
 #[derive(Clone, Copy, Debug)]
@@ -10,10 +10,10 @@ enum Call {
     Data,
     Text,
     Finish,
-    Park,
+    Suspend,
 }
 
-const CALLS: [Call; 4] = [Call::Data, Call::Text, Call::Finish, Call::Park];
+const CALLS: [Call; 4] = [Call::Data, Call::Text, Call::Finish, Call::Suspend];
 
 /// What a call has left.
 #[derive(PartialEq)]
@@ -29,7 +29,7 @@ fn made(call: Call, session: &mut Lent, piece: &Lent, out: &mut Lent) -> u64 {
             Call::Data => tulvekas_data(session.written(), session.len(), piece.read(), piece.len()),
             Call::Text => tulvekas_text(session.written(), session.len(), piece.read(), piece.len(), out.written(), out.len()),
             Call::Finish => tulvekas_finish(session.written(), session.len(), out.written(), out.len()),
-            Call::Park => tulvekas_park(session.read(), session.len(), out.written(), out.len()),
+            Call::Suspend => tulvekas_suspend(session.read(), session.len(), out.written(), out.len()),
         }
     }
 }
@@ -44,7 +44,7 @@ fn once(t: &mut Tester, call: Call, session: &[u8], piece: &[u8], out: &[u8]) ->
         Call::Data => (&[0, 7, 3], 0),
         Call::Text => (&[0, 7, 3, 4], piece.len()),
         Call::Finish => (&[0, 7, 4], 16),
-        Call::Park => (&[0, 7, 4], 512),
+        Call::Suspend => (&[0, 7, 4], 512),
     };
     // The condition of 8 is another length, and no other.
     let answered = if session.len() == SESSION_BYTES { numbers.contains(&answer) } else { answer == 8 };
@@ -63,8 +63,8 @@ fn once(t: &mut Tester, call: Call, session: &[u8], piece: &[u8], out: &[u8]) ->
     if answer != 0 && (session.contents() != session.lent() || out.contents() != out.lent()) {
         t.fail(&name, format!("refused with {answer}, but a lent byte has changed"));
     }
-    if matches!(call, Call::Park) && session.contents() != session.lent() {
-        t.fail(&name, "park has changed the session".into());
+    if matches!(call, Call::Suspend) && session.contents() != session.lent() {
+        t.fail(&name, "suspend has changed the session".into());
     }
     After { answer, session: session.contents().to_vec(), out: out.contents().to_vec() }
 }
@@ -77,7 +77,7 @@ fn twice(t: &mut Tester, call: Call, session: &[u8]) -> Vec<u8> {
         Call::Data => 0,
         Call::Text => piece_len,
         Call::Finish => 16,
-        Call::Park => 512,
+        Call::Suspend => 512,
     };
     let out_len = if t.random.one_in(8) { t.random.below(needed + 1) } else { needed + t.random.below(20) };
     let out = t.random.bytes(out_len);

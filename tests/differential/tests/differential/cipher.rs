@@ -146,7 +146,7 @@ fn traces_of_sessions() {
         let (data, text) = (t.random.bytes(data_len), t.random.bytes(text_len));
         t.data(&mut session, &data);
         t.text(&mut session, &text);
-        let block = t.park(&session);
+        let block = t.suspend(&session);
         let (answer, found_iv, sealed) = t.trace(&block[16..128], &key, 2 + text_len.div_ceil(16) as u64);
         t.expect("trace", answer, 0);
         if found_iv[..16] != iv || sealed[0] != 1 {

@@ -1,4 +1,4 @@
-//! One page cut everywhere, parked and taken up everywhere.
+//! One page cut everywhere, suspended and resumed everywhere.
 
 use crate::tester::{Pair, Tester};
 
@@ -6,8 +6,8 @@ use crate::tester::{Pair, Tester};
 #[derive(Clone, Copy)]
 enum Between {
     Nothing,
-    Park,
-    ParkAndTakeUp,
+    Suspend,
+    SuspendAndResume,
 }
 
 struct Page {
@@ -32,11 +32,11 @@ impl Page {
     fn pause(&self, t: &mut Tester, session: &mut Pair, between: Between) {
         match between {
             Between::Nothing => {}
-            Between::Park => {
-                t.park(session);
+            Between::Suspend => {
+                t.suspend(session);
             }
-            Between::ParkAndTakeUp => {
-                t.park_and_take_up(&self.key, &self.iv, session);
+            Between::SuspendAndResume => {
+                t.suspend_and_resume(&self.key, &self.iv, session);
             }
         }
     }
@@ -72,7 +72,7 @@ fn pieces<'a>(bytes: &'a [u8], cuts: &'a [usize]) -> impl Iterator<Item = &'a [u
 }
 
 const MOST: usize = 50;
-const WAYS: [Between; 3] = [Between::Nothing, Between::Park, Between::ParkAndTakeUp];
+const WAYS: [Between; 3] = [Between::Nothing, Between::Suspend, Between::SuspendAndResume];
 
 /// Every length of data up to 50 cut in two at every place, and every length of text likewise.
 #[test]
@@ -105,9 +105,9 @@ fn cut_in_three() {
         for first in 0..=len {
             for second in first..=len {
                 if t.chosen() {
-                    page.seal_cut(&mut t, &[first, second], &[first, second], Between::Park);
-                    page.seal_cut(&mut t, &[first], &[first, second], Between::ParkAndTakeUp);
-                    page.seal_cut(&mut t, &[first, second], &[second], Between::ParkAndTakeUp);
+                    page.seal_cut(&mut t, &[first, second], &[first, second], Between::Suspend);
+                    page.seal_cut(&mut t, &[first], &[first, second], Between::SuspendAndResume);
+                    page.seal_cut(&mut t, &[first, second], &[second], Between::SuspendAndResume);
                 }
             }
         }

@@ -2,7 +2,7 @@
 
 use crate::tester::{Pair, Tester, SESSION_BYTES};
 use reference::cipher::{Key, Mode, State};
-use reference::parked::check;
+use reference::suspended::check;
 
 /// The number of the first condition that holds, else 0.
 fn first(conditions: &[(bool, u64)]) -> u64 {
@@ -154,9 +154,9 @@ fn in_each_phase(t: &mut Tester, key: &[u8; 32], iv: &[u8; 16]) -> [Pair; 3] {
     [in_data, in_text, finished]
 }
 
-/// Parks, or requires that the session is finished: what a call has left behind.
+/// Suspends, or requires that the session is finished: what a call has left behind.
 fn look_at(t: &mut Tester, session: &Pair) {
-    t.park_in(session, SESSION_BYTES, 512);
+    t.suspend_in(session, SESSION_BYTES, 512);
 }
 
 #[test]
@@ -216,8 +216,8 @@ fn order_of_text() {
 }
 
 #[test]
-fn order_of_finish_and_park() {
-    let mut t = Tester::new("order of finish and park");
+fn order_of_finish_and_suspend() {
+    let mut t = Tester::new("order of finish and suspend");
     for _ in 0..t.rounds(10) {
         let (key, iv) = (t.random.secret::<32>(), t.random.secret::<16>());
         let sessions = in_each_phase(&mut t, &key, &iv);
@@ -230,8 +230,8 @@ fn order_of_finish_and_park() {
                     look_at(&mut t, &session);
                 }
                 for block_len in [512, 0, 511, 513, 600] {
-                    let answer = t.park_in(session, session_len, block_len).0;
-                    t.expect("park", answer, first(&[(session_len != SESSION_BYTES, 8), (phase > 1, 7), (block_len < 512, 4)]));
+                    let answer = t.suspend_in(session, session_len, block_len).0;
+                    t.expect("suspend", answer, first(&[(session_len != SESSION_BYTES, 8), (phase > 1, 7), (block_len < 512, 4)]));
                 }
             }
         }
@@ -240,11 +240,11 @@ fn order_of_finish_and_park() {
 }
 
 #[test]
-fn order_of_take_up() {
-    let mut t = Tester::new("order of take up");
+fn order_of_resume() {
+    let mut t = Tester::new("order of resume");
     let (key, iv) = (t.random.array::<32>(), t.random.array::<16>());
     let [_, session, _] = in_each_phase(&mut t, &key, &iv);
-    let block = t.park(&session);
+    let block = t.suspend(&session);
     let checked = |mut block: [u8; 512]| {
         let sum = check(&block);
         block[508..].copy_from_slice(&sum.to_le_bytes());
@@ -278,14 +278,14 @@ fn order_of_take_up() {
             for session_len in [SESSION_BYTES, 0, 1, SESSION_BYTES - 1, SESSION_BYTES + 1, 300] {
                 for iv_len in ROOMS_16 {
                     let key = &[&key[..], &[0]].concat()[..key_len];
-                    let answer = t.take_up_in(key, block, session_len, iv_len).0;
+                    let answer = t.resume_in(key, block, session_len, iv_len).0;
                     let expected = first(&[
                         (key_len != 32, 1),
                         (*of_block == 8, 8),
                         (*of_block == 6, 6),
                         (session_len < SESSION_BYTES || iv_len < 16, 4),
                     ]);
-                    t.expect("take_up", answer, expected);
+                    t.expect("resume", answer, expected);
                 }
             }
         }

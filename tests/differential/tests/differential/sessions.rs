@@ -61,8 +61,8 @@ impl Page {
             t.expect("text", answer, 7);
             let answer = t.finish(&mut self.session).0;
             t.expect("finish", answer, 7);
-            let answer = t.park_in(&self.session, SESSION_BYTES, 512).0;
-            t.expect("park", answer, 7);
+            let answer = t.suspend_in(&self.session, SESSION_BYTES, 512).0;
+            t.expect("suspend", answer, 7);
         }
     }
 
@@ -88,7 +88,7 @@ impl Page {
             }
             11 | 12 => {
                 let (key, iv) = (self.key, self.iv);
-                t.park_and_take_up(&key, &iv, &mut self.session);
+                t.suspend_and_resume(&key, &iv, &mut self.session);
             }
             13 if len > 0 => {
                 let short = if t.random.one_in(2) { len - 1 } else { t.random.below(len) };
@@ -97,8 +97,8 @@ impl Page {
             }
             14 => {
                 let short = t.random.below(512);
-                let answer = t.park_in(&self.session, SESSION_BYTES, short).0;
-                t.expect("park", answer, 4);
+                let answer = t.suspend_in(&self.session, SESSION_BYTES, short).0;
+                t.expect("suspend", answer, 4);
             }
             15 if t.random.one_in(4) => {
                 let over = vec![0x5a; 65_536 - self.data.len()];
@@ -114,7 +114,7 @@ impl Page {
             }
             _ => {}
         }
-        t.park(&self.session);
+        t.suspend(&self.session);
     }
 }
 
@@ -166,7 +166,7 @@ fn sessions_up_to_the_limits() {
             t.expect("data", answer, expected);
         }
         let (key, iv) = (page.key, page.iv);
-        t.park_and_take_up(&key, &iv, &mut page.session);
+        t.suspend_and_resume(&key, &iv, &mut page.session);
         while page.text.len() < 1_048_576 {
             let left = 1_048_576 - page.text.len();
             let answer = page.text(&mut t, &source[..left + 1]);
@@ -177,13 +177,13 @@ fn sessions_up_to_the_limits() {
             let len = if t.random.one_in(6) { left } else { (1 + t.random.below(20 * most_piece)).min(left) };
             let answer = page.text(&mut t, &source[..len]);
             t.expect("text", answer, 0);
-            t.park_and_take_up(&key, &iv, &mut page.session);
+            t.suspend_and_resume(&key, &iv, &mut page.session);
         }
         for (len, expected) in [(1, 3), (0, 0), (16, 3)] {
             let answer = page.text(&mut t, &source[..len]);
             t.expect("text", answer, expected);
         }
-        t.park_and_take_up(&key, &iv, &mut page.session);
+        t.suspend_and_resume(&key, &iv, &mut page.session);
         page.finish(&mut t);
     }
     t.done();

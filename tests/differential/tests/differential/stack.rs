@@ -1,27 +1,108 @@
-//! The header's bound on the stack: every call runs on a thread with 48 KiB for the calls and 16 KiB for the thread itself.
+//! The header's bound on the stack: each call is made on a thread whose stack is painted before, and what it writes of it is measured.
 
-use crate::tester::Tester;
+#![cfg(all(target_os = "linux", target_arch = "x86_64"))]
+
+use crate::library::*;
+use crate::random::Random;
+use crate::tester::SESSION_BYTES;
+use std::ffi::c_void;
+use std::ptr::null_mut;
+
+/// Bytes of stack that the header allows a call.
+const MOST: usize = 16 << 10;
+/// Bytes of stack that the thread has.
+const STACK: usize = 256 << 10;
+const PAINT: u8 = 0xa5;
+const PAGE: usize = 4096;
+
+/// `pthread_attr_t`.
+#[repr(C, align(8))]
+struct Attributes([u8; 56]);
+
+extern "C" {
+    fn pthread_attr_init(attributes: *mut Attributes) -> i32;
+    fn pthread_attr_setstack(attributes: *mut Attributes, stack: *mut c_void, len: usize) -> i32;
+    fn pthread_create(
+        thread: *mut usize,
+        attributes: *const Attributes,
+        start: extern "C" fn(*mut c_void) -> *mut c_void,
+        with: *mut c_void,
+    ) -> i32;
+    fn pthread_join(thread: usize, result: *mut *mut c_void) -> i32;
+}
+
+/// What a thread is to do.
+type Made<'a> = &'a mut dyn FnMut();
+
+extern "C" fn make(made: *mut c_void) -> *mut c_void {
+    unsafe { (*made.cast::<Made>())() };
+    null_mut()
+}
+
+/// How far down its stack a thread writes that does what it is told to.
+fn depth(mut made: Made) -> usize {
+    let mut memory = vec![PAINT; STACK + PAGE];
+    let at = memory.as_ptr().align_offset(PAGE);
+    let stack = &mut memory[at..at + STACK];
+    let (mut attributes, mut thread) = (Attributes([0; 56]), 0);
+    let with: *mut Made = &mut made;
+    unsafe {
+        assert_eq!(pthread_attr_init(&mut attributes), 0);
+        assert_eq!(pthread_attr_setstack(&mut attributes, stack.as_mut_ptr().cast(), STACK), 0);
+        assert_eq!(pthread_create(&mut thread, &attributes, make, with.cast()), 0);
+        assert_eq!(pthread_join(thread, null_mut()), 0);
+    }
+    STACK - stack.iter().take_while(|byte| **byte == PAINT).count()
+}
+
+/// The stack of each call on data and text of these lengths, by pieces each in two.
+fn of_a_page(random: &mut Random, data_len: usize, text_len: usize) -> Vec<(&'static str, usize)> {
+    let (key, iv) = (random.array::<32>(), random.array::<16>());
+    let (data, text) = (random.bytes(data_len), random.bytes(text_len));
+    let (k, v, d, x, n, m) = (key.as_ptr(), iv.as_ptr(), data.as_ptr(), text.as_ptr(), data_len, text_len);
+    let (mut cipher, mut opened, mut tag) = (vec![0; m], vec![0; m], [0; 16]);
+    let (c, o, g) = (cipher.as_mut_ptr(), opened.as_mut_ptr(), tag.as_mut_ptr());
+    let (mut session, mut block, mut byte) = ([0; SESSION_BYTES], [0; 512], [0]);
+    let (s, b, y) = (session.as_mut_ptr(), block.as_mut_ptr(), byte.as_mut_ptr());
+    let (mut found, count) = ([0; 16], 2 + m.div_ceil(16) as u64);
+    let f = found.as_mut_ptr();
+    let nothing = depth(&mut || {});
+    let mut taken = Vec::new();
+    let mut take = |name, call: &dyn Fn() -> u64| {
+        let mut answer = None;
+        let deep = depth(&mut || answer = Some(call()));
+        assert_eq!(answer, Some(0), "{name}");
+        taken.push((name, deep.saturating_sub(nothing)));
+    };
+    unsafe {
+        take("seal", &|| tulvekas_seal(k, 32, v, 16, d, n, x, m, c, m, g, 16));
+        take("open", &|| tulvekas_open(k, 32, v, 16, d, n, c, m, g, 16, o, m));
+        take("begin", &|| tulvekas_begin(k, 32, v, 16, s, SESSION_BYTES));
+        for (at, len) in [(0, n / 3), (n / 3, n - n / 3)] {
+            take("data", &|| tulvekas_data(s, SESSION_BYTES, d.add(at), len));
+        }
+        for (at, len) in [(0, m / 3), (m / 3, m - m / 3)] {
+            take("text", &|| tulvekas_text(s, SESSION_BYTES, x.add(at), len, c.add(at), len));
+        }
+        take("suspend", &|| tulvekas_suspend(s, SESSION_BYTES, b, 512));
+        take("resume", &|| tulvekas_resume(k, 32, b, 512, s, SESSION_BYTES, f, 16));
+        take("finish", &|| tulvekas_finish(s, SESSION_BYTES, g, 16));
+        take("keystream", &|| tulvekas_keystream(k, 32, v, 16, 1, o, m));
+        take("trace", &|| tulvekas_trace(b.add(16), 112, k, 32, count, f, 16, y, 1));
+        take("kept", &|| tulvekas_kept(1_000, 500, y, 1));
+    }
+    taken
+}
 
 #[test]
-fn calls_on_a_small_stack() {
-    let thread = std::thread::Builder::new().stack_size((48 + 16) << 10);
-    let run = thread.spawn(|| {
-        let mut t = Tester::new("calls on a small stack");
-        for (data_len, text_len) in [(0, 0), (21, 39), (1_000, 5_000)] {
-            let (key, iv) = (t.random.array::<32>(), t.random.array::<16>());
-            let (data, text) = (t.random.bytes(data_len), t.random.bytes(text_len));
-            let (_, cipher, tag) = t.seal(&key, &iv, &data, &text, text_len, 16);
-            t.open(&key, &iv, &data, &cipher, &tag, text_len);
-            let mut session = t.begin(&key, &iv);
-            t.data(&mut session, &data);
-            t.text(&mut session, &text);
-            let block = t.park_and_take_up(&key, &iv, &mut session);
-            t.finish(&mut session);
-            t.trace(&block[16..128], &key, 2 + text_len.div_ceil(16) as u64);
-            t.keystream(&key, &iv, 0, text_len);
-            t.kept(1_000, 500, 1);
+fn stack_of_each_call() {
+    let mut random = Random::new(20_000_101);
+    let mut deepest = ("none", 0);
+    for (data_len, text_len) in [(0, 0), (5, 9), (16, 16), (21, 39), (1_000, 5_000), (65_535, 1_048_576)] {
+        for (call, bytes) in of_a_page(&mut random, data_len, text_len) {
+            assert!(bytes <= MOST, "{call} takes {bytes} bytes of stack");
+            deepest = if bytes > deepest.1 { (call, bytes) } else { deepest };
         }
-        t.done();
-    });
-    run.unwrap().join().unwrap();
+    }
+    println!("stack of each call: at most {} bytes ({})", deepest.1, deepest.0);
 }

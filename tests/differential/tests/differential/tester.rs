@@ -338,54 +338,54 @@ impl Tester {
         self.finish_in(pair, SESSION_BYTES, 16 + spare)
     }
 
-    pub fn park_in(&mut self, pair: &Pair, session_len: usize, block_len: usize) -> (u64, Vec<u8>) {
+    pub fn suspend_in(&mut self, pair: &Pair, session_len: usize, block_len: usize) -> (u64, Vec<u8>) {
         let (session, mut block) = (self.lend_session(pair, session_len), self.lend_output("block", block_len));
         let mut our_block = block.lent().to_vec();
-        let expected = number(&calls::park(&pair.ours, session_len, &mut our_block));
-        let found = unsafe { tulvekas_park(session.read(), session.len(), block.written(), block.len()) };
-        self.compare("park", found, expected, &[(&session, Left::Unchanged), (&block, Left::Bytes(&our_block))]);
+        let expected = number(&calls::suspend(&pair.ours, session_len, &mut our_block));
+        let found = unsafe { tulvekas_suspend(session.read(), session.len(), block.written(), block.len()) };
+        self.compare("suspend", found, expected, &[(&session, Left::Unchanged), (&block, Left::Bytes(&our_block))]);
         our_block.truncate(512);
         (found, our_block)
     }
 
-    pub fn park(&mut self, pair: &Pair) -> [u8; 512] {
+    pub fn suspend(&mut self, pair: &Pair) -> [u8; 512] {
         let spare = if self.random.one_in(2) { 0 } else { self.random.below(40) };
-        let (answer, block) = self.park_in(pair, SESSION_BYTES, 512 + spare);
-        self.expect("park", answer, 0);
+        let (answer, block) = self.suspend_in(pair, SESSION_BYTES, 512 + spare);
+        self.expect("suspend", answer, 0);
         block.try_into().unwrap()
     }
 
     /// Gives the session, if accepted, and the written IV.
-    pub fn take_up_in(&mut self, key: &[u8], block: &[u8], session_len: usize, iv_len: usize) -> (u64, Option<Pair>, Vec<u8>) {
+    pub fn resume_in(&mut self, key: &[u8], block: &[u8], session_len: usize, iv_len: usize) -> (u64, Option<Pair>, Vec<u8>) {
         let (key, block) = (self.lend("key", key), self.lend("block", block));
         let (mut session, mut iv) = (self.lend_output("session", session_len), self.lend_output("iv", iv_len));
         let mut our_iv = iv.lent().to_vec();
-        let ours = calls::take_up(key.lent(), block.lent(), session_len, &mut our_iv);
+        let ours = calls::resume(key.lent(), block.lent(), session_len, &mut our_iv);
         let found = unsafe {
-            tulvekas_take_up(key.read(), key.len(), block.read(), block.len(), session.written(), session.len(), iv.written(), iv.len())
+            tulvekas_resume(key.read(), key.len(), block.read(), block.len(), session.written(), session.len(), iv.written(), iv.len())
         };
         let lent = [(&key, Left::Unchanged), (&block, Left::Unchanged), (&session, Left::Session), (&iv, Left::Bytes(&our_iv))];
-        self.compare("take_up", found, number(&ours), &lent);
-        let pair = self.met("take_up", ours.ok(), &session);
+        self.compare("resume", found, number(&ours), &lent);
+        let pair = self.met("resume", ours.ok(), &session);
         our_iv.truncate(16);
         (found, pair, our_iv)
     }
 
-    pub fn take_up(&mut self, key: &[u8], block: &[u8]) -> (u64, Option<Pair>, Vec<u8>) {
+    pub fn resume(&mut self, key: &[u8], block: &[u8]) -> (u64, Option<Pair>, Vec<u8>) {
         let (session_spare, iv_spare) = if self.random.one_in(2) { (0, 0) } else { (self.random.below(40), self.random.below(40)) };
-        self.take_up_in(key, block, SESSION_BYTES + session_spare, 16 + iv_spare)
+        self.resume_in(key, block, SESSION_BYTES + session_spare, 16 + iv_spare)
     }
 
-    /// Parks the session, takes it up and requires the very same one; gives the parked bytes.
-    pub fn park_and_take_up(&mut self, key: &[u8], iv: &[u8], pair: &mut Pair) -> [u8; 512] {
-        let block = self.park(pair);
-        let (answer, taken, found_iv) = self.take_up(key, &block);
-        self.expect("take_up", answer, 0);
-        let taken = taken.unwrap();
-        if taken.ours != pair.ours || taken.theirs != pair.theirs || found_iv != iv {
-            self.fail("take_up", "not the session that was parked".into());
+    /// Suspends the session, resumes it and requires the very same one; gives the suspended block.
+    pub fn suspend_and_resume(&mut self, key: &[u8], iv: &[u8], pair: &mut Pair) -> [u8; 512] {
+        let block = self.suspend(pair);
+        let (answer, resumed, found_iv) = self.resume(key, &block);
+        self.expect("resume", answer, 0);
+        let resumed = resumed.unwrap();
+        if resumed.ours != pair.ours || resumed.theirs != pair.theirs || found_iv != iv {
+            self.fail("resume", "not the session that was suspended".into());
         }
-        *pair = taken;
+        *pair = resumed;
         block
     }
 

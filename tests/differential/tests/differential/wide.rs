@@ -92,9 +92,9 @@ fn lengths_over_32_bits() {
         check("data", tulvekas_data(w, WIDE + SESSION_BYTES, a, 19), 8);
         check("text", tulvekas_text(w, WIDE + SESSION_BYTES, x, 53, o, 53), 8);
         check("finish", tulvekas_finish(w, WIDE + SESSION_BYTES, o, 16), 8);
-        check("park", tulvekas_park(zeros, WIDE + SESSION_BYTES, w, 512), 8);
-        check("take_up", tulvekas_take_up(zeros, WIDE + 32, zeros, 512, w, SESSION_BYTES, o, 16), 1);
-        check("take_up", tulvekas_take_up(k, 32, zeros, WIDE + 512, w, SESSION_BYTES, o, 16), 8);
+        check("suspend", tulvekas_suspend(zeros, WIDE + SESSION_BYTES, w, 512), 8);
+        check("resume", tulvekas_resume(zeros, WIDE + 32, zeros, 512, w, SESSION_BYTES, o, 16), 1);
+        check("resume", tulvekas_resume(k, 32, zeros, WIDE + 512, w, SESSION_BYTES, o, 16), 8);
         check("keystream", tulvekas_keystream(zeros, WIDE + 32, v, 16, 1, w, 16), 1);
         check("keystream", tulvekas_keystream(k, 32, zeros, WIDE + 16, 1, w, 16), 2);
         check("keystream", tulvekas_keystream(k, 32, v, 16, 1, w, WIDE + 32), 9);
@@ -136,11 +136,11 @@ fn accepted(t: &mut Tester, written: &mut Zeros, page: [&[u8]; 6]) {
         session.copy_from_slice(&pair.theirs);
         check(t, "text", tulvekas_text(s, SESSION_BYTES, x, text.len(), w, WIDE + 3), cipher);
         t.text(&mut pair, text);
-        let block = t.park(&pair);
-        check(t, "park", tulvekas_park(s, SESSION_BYTES, w, WIDE + 3), &block);
+        let block = t.suspend(&pair);
+        check(t, "suspend", tulvekas_suspend(s, SESSION_BYTES, w, WIDE + 3), &block);
         let b = block.as_ptr();
-        check(t, "take_up", tulvekas_take_up(k, 32, b, 512, w, WIDE + 3, o, 16), &pair.theirs);
-        check(t, "take_up", tulvekas_take_up(k, 32, b, 512, o, SESSION_BYTES, w, WIDE + 3), iv);
+        check(t, "resume", tulvekas_resume(k, 32, b, 512, w, WIDE + 3, o, 16), &pair.theirs);
+        check(t, "resume", tulvekas_resume(k, 32, b, 512, o, SESSION_BYTES, w, WIDE + 3), iv);
         let count = 2 + text.len().div_ceil(16) as u64;
         check(t, "trace", tulvekas_trace(b.add(16), 112, k, 32, count, w, WIDE + 3, o, 1), iv);
         check(t, "trace", tulvekas_trace(b.add(16), 112, k, 32, count, o, 16, w, WIDE), &[1]);

@@ -1,4 +1,5 @@
-//! Parked sessions: document 01, "Sessions and parking", from "Park (7, 4) writes 512 bytes" on.
+//! Suspended sessions: document 01, "Sessions and parking", from "Park (7, 4) writes 512 bytes" on. `suspend` is its park, `resume` its
+//! take up, a suspended block its parked block, and the IV its stay number.
 
 use crate::block::{padded, Block};
 use crate::cipher::{Key, Mode, State};
@@ -6,28 +7,28 @@ use crate::page::{MOST_DATA, MOST_TEXT};
 use crate::refusal::{require, Refusal};
 use crate::session::{Phase, Session};
 
-/// Bytes of a parked session.
-pub const PARKED_BYTES: usize = 512;
+/// Bytes of a suspended block.
+pub const SUSPENDED_BYTES: usize = 512;
 
 /// The sum modulo 2^32 of the 127 words of 32 bits before the check.
-pub fn check(block: &[u8; PARKED_BYTES]) -> u32 {
+pub fn check(block: &[u8; SUSPENDED_BYTES]) -> u32 {
     (0..127).fold(0u32, |sum, i| sum.wrapping_add(word(block, 4 * i)))
 }
 
 /// The 32-bit number that stands at a place, low byte first.
-fn word(block: &[u8; PARKED_BYTES], at: usize) -> u32 {
+fn word(block: &[u8; SUSPENDED_BYTES], at: usize) -> u32 {
     u32::from_le_bytes([block[at], block[at + 1], block[at + 2], block[at + 3]])
 }
 
 /// Writes the session to the front of `out`. Refuses 7, 4.
-pub fn park(session: &Session, out: &mut [u8]) -> Result<(), Refusal> {
+pub fn suspend(session: &Session, out: &mut [u8]) -> Result<(), Refusal> {
     let phase = match session.phase {
         Phase::Data => 0,
         Phase::Text => 1,
         Phase::Finished => return Err(Refusal::OutOfPhase),
     };
-    require(out.len() >= PARKED_BYTES, Refusal::ShortOutput)?;
-    let mut block = [0; PARKED_BYTES];
+    require(out.len() >= SUSPENDED_BYTES, Refusal::ShortOutput)?;
+    let mut block = [0; SUSPENDED_BYTES];
     block[0] = phase;
     block[4..8].copy_from_slice(&(session.data as u32).to_le_bytes());
     block[8..12].copy_from_slice(&(session.text as u32).to_le_bytes());
@@ -36,12 +37,12 @@ pub fn park(session: &Session, out: &mut [u8]) -> Result<(), Refusal> {
     block[144..160].copy_from_slice(&session.pending);
     let sum = check(&block);
     block[508..].copy_from_slice(&sum.to_le_bytes());
-    out[..PARKED_BYTES].copy_from_slice(&block);
+    out[..SUSPENDED_BYTES].copy_from_slice(&block);
     Ok(())
 }
 
 /// Whether 512 bytes keep every layout rule.
-fn well_laid(block: &[u8; PARKED_BYTES]) -> bool {
+fn well_laid(block: &[u8; SUSPENDED_BYTES]) -> bool {
     let (data, text) = (word(block, 4), word(block, 8));
     let of_phase = if block[0] == 0 { data } else { text };
     let zero = |from: usize, to: usize| block[from..to].iter().all(|byte| *byte == 0);
@@ -56,10 +57,10 @@ fn well_laid(block: &[u8; PARKED_BYTES]) -> bool {
         && word(block, 508) == check(block)
 }
 
-/// The session that was parked, and its IV. Refuses 1, 8, 6.
-pub fn take_up(key: &[u8], block: &[u8]) -> Result<(Session, Block), Refusal> {
+/// The session that was suspended, and its IV. Refuses 1, 8, 6.
+pub fn resume(key: &[u8], block: &[u8]) -> Result<(Session, Block), Refusal> {
     let key = Key::new(key)?;
-    let block: &[u8; PARKED_BYTES] = block.try_into().map_err(|_| Refusal::BadBlock)?;
+    let block: &[u8; SUSPENDED_BYTES] = block.try_into().map_err(|_| Refusal::BadBlock)?;
     require(well_laid(block), Refusal::BadBlock)?;
     let text = u64::from(word(block, 8));
     let state = State::from_bytes(block[16..128].try_into().unwrap());

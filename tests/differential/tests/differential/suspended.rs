@@ -1,8 +1,8 @@
-//! Parked sessions: layouts kept and broken, foreign states, and what is taken as stored.
+//! Suspended sessions: layouts kept and broken, foreign states, and what is taken as stored.
 
 use crate::tester::{Pair, Tester, SESSION_BYTES};
 use reference::cipher::{Key, Mode, State};
-use reference::parked::check;
+use reference::suspended::check;
 
 /// Sets the check again, so that a change breaks its own rule alone.
 fn checked(mut block: [u8; 512]) -> [u8; 512] {
@@ -17,13 +17,13 @@ fn with(block: &[u8; 512], at: usize, bytes: &[u8]) -> [u8; 512] {
     checked(block)
 }
 
-struct Parked {
+struct Suspended {
     key: [u8; 32],
     block: [u8; 512],
 }
 
-/// A session parked with these lengths; `closed` ones have taken a text piece.
-fn parked(t: &mut Tester, data_len: usize, text_len: usize, closed: bool) -> Parked {
+/// A session suspended with these lengths; `closed` ones have taken a text piece.
+fn suspended(t: &mut Tester, data_len: usize, text_len: usize, closed: bool) -> Suspended {
     t.forget();
     let (key, iv) = (t.random.secret::<32>(), t.random.secret::<16>());
     let mut session = t.begin(&key, &iv);
@@ -32,8 +32,8 @@ fn parked(t: &mut Tester, data_len: usize, text_len: usize, closed: bool) -> Par
     if closed {
         t.text(&mut session, &text);
     }
-    let block = t.park_and_take_up(&key, &iv, &mut session);
-    Parked { key, block }
+    let block = t.suspend_and_resume(&key, &iv, &mut session);
+    Suspended { key, block }
 }
 
 /// Lengths of data and text, and whether a text piece was taken.
@@ -58,14 +58,14 @@ const SHAPES: [(usize, usize, bool); 18] = [
     (2, 4_096, true),
 ];
 
-/// Goes on with a session that was taken up, however its hash came about.
+/// Goes on with a session that was resumed, however its hash came about.
 fn go_on(t: &mut Tester, mut session: Pair) {
     let (data, text) = (t.random.bytes(21), t.random.bytes(37));
-    t.park(&session);
+    t.suspend(&session);
     t.data(&mut session, &data);
-    t.park(&session);
+    t.suspend(&session);
     t.text(&mut session, &text);
-    t.park(&session);
+    t.suspend(&session);
     t.finish(&mut session);
 }
 
@@ -74,13 +74,13 @@ fn go_on(t: &mut Tester, mut session: Pair) {
 fn every_bit_damaged() {
     let mut t = Tester::new("every bit damaged");
     for (data_len, text_len, closed) in SHAPES {
-        let parked = parked(&mut t, data_len, text_len, closed);
+        let suspended = suspended(&mut t, data_len, text_len, closed);
         for bit in 0..8 * 512 {
             if t.chosen() {
-                let mut block = parked.block;
+                let mut block = suspended.block;
                 block[bit / 8] ^= 1 << (bit % 8);
-                let answer = t.take_up(&parked.key, &block).0;
-                t.expect("take_up", answer, 8);
+                let answer = t.resume(&suspended.key, &block).0;
+                t.expect("resume", answer, 8);
             }
         }
     }
@@ -92,19 +92,19 @@ fn every_bit_damaged() {
 fn every_byte_changed_and_checked() {
     let mut t = Tester::new("every byte changed and checked");
     for (data_len, text_len, closed) in SHAPES {
-        let parked = parked(&mut t, data_len, text_len, closed);
+        let suspended = suspended(&mut t, data_len, text_len, closed);
         for at in 0..508 {
             for change in [1, 0x10, 0x80, 0xff] {
                 if !t.chosen() {
                     continue;
                 }
-                let block = with(&parked.block, at, &[parked.block[at] ^ change]);
-                let (answer, session, _) = t.take_up(&parked.key, &block);
+                let block = with(&suspended.block, at, &[suspended.block[at] ^ change]);
+                let (answer, session, _) = t.resume(&suspended.key, &block);
                 match at {
-                    0 if parked.block[0] ^ change > 1 => t.expect("take_up", answer, 8),
-                    1..=3 | 12..=15 | 160..=507 => t.expect("take_up", answer, 8),
-                    16..=127 => t.expect("take_up", answer, 6),
-                    128..=143 => t.expect("take_up", answer, 0),
+                    0 if suspended.block[0] ^ change > 1 => t.expect("resume", answer, 8),
+                    1..=3 | 12..=15 | 160..=507 => t.expect("resume", answer, 8),
+                    16..=127 => t.expect("resume", answer, 6),
+                    128..=143 => t.expect("resume", answer, 0),
                     _ => {}
                 }
                 if let Some(session) = session {
@@ -121,10 +121,10 @@ fn every_byte_changed_and_checked() {
 fn each_rule_broken() {
     let mut t = Tester::new("each rule broken");
     for (data_len, text_len, closed) in SHAPES {
-        let Parked { key, block } = parked(&mut t, data_len, text_len, closed);
+        let Suspended { key, block } = suspended(&mut t, data_len, text_len, closed);
         let refused = |t: &mut Tester, block: &[u8]| {
-            let answer = t.take_up(&key, block).0;
-            t.expect("take_up", answer, 8);
+            let answer = t.resume(&key, block).0;
+            t.expect("resume", answer, 8);
         };
         for phase in 2..=255 {
             refused(&mut t, &with(&block, 0, &[phase]));
@@ -173,10 +173,10 @@ fn foreign_states() {
     let mut t = Tester::new("foreign states");
     for _ in 0..t.rounds(150) {
         for (data_len, text_len, closed) in SHAPES {
-            let Parked { key, block } = parked(&mut t, data_len % 100, text_len, closed);
+            let Suspended { key, block } = suspended(&mut t, data_len % 100, text_len, closed);
             let refused = |t: &mut Tester, key: &[u8], block: &[u8]| {
-                let answer = t.take_up(key, block).0;
-                t.expect("take_up", answer, 6);
+                let answer = t.resume(key, block).0;
+                t.expect("resume", answer, 6);
             };
             let random = t.random.bytes(112);
             refused(&mut t, &key, &with(&block, 16, &random));
@@ -215,7 +215,7 @@ fn taken_as_stored() {
     let mut t = Tester::new("taken as stored");
     for _ in 0..t.rounds(150) {
         for (data_len, text_len, closed) in SHAPES {
-            let Parked { key, block } = parked(&mut t, data_len % 1_000, text_len, closed);
+            let Suspended { key, block } = suspended(&mut t, data_len % 1_000, text_len, closed);
             let pending = if closed { text_len } else { data_len % 1_000 } % 16;
             let hash = t.random.bytes(16 + pending);
             let mut block = with(&block, 128, &hash);
@@ -223,8 +223,8 @@ fn taken_as_stored() {
                 let data = if closed { t.random.below(65_536) } else { 16 * t.random.below(4_095) + pending };
                 block = with(&block, 4, &(data as u32).to_le_bytes());
             }
-            let (answer, session, _) = t.take_up(&key, &block);
-            t.expect("take_up", answer, 0);
+            let (answer, session, _) = t.resume(&key, &block);
+            t.expect("resume", answer, 0);
             go_on(&mut t, session.unwrap());
         }
     }
@@ -237,9 +237,9 @@ fn phases_changed() {
     let mut t = Tester::new("phases changed");
     for _ in 0..t.rounds(100) {
         for (data_len, text_len, closed) in SHAPES {
-            let Parked { key, block } = parked(&mut t, data_len % 1_000, text_len, closed);
+            let Suspended { key, block } = suspended(&mut t, data_len % 1_000, text_len, closed);
             let changed = with(&block, 0, &[block[0] ^ 1]);
-            if let (_, Some(session), _) = t.take_up(&key, &changed) {
+            if let (_, Some(session), _) = t.resume(&key, &changed) {
                 go_on(&mut t, session);
             }
         }
@@ -254,21 +254,21 @@ fn random_blocks() {
     for _ in 0..t.rounds(4_000) {
         let key = t.random.secret::<32>();
         let random: [u8; 512] = t.random.array();
-        t.take_up(&key, &random);
-        t.take_up(&key, &checked(random));
+        t.resume(&key, &random);
+        t.resume(&key, &checked(random));
         let mut block = [0; 512];
         let text_len = t.random.below(400);
         block[0] = 1;
         block[4..8].copy_from_slice(&(t.random.below(65_536) as u32).to_le_bytes());
         block[8..12].copy_from_slice(&(text_len as u32).to_le_bytes());
         t.random.fill(&mut block[16..144 + text_len % 16]);
-        let answer = t.take_up(&key, &checked(block)).0;
-        t.expect("take_up", answer, 6);
+        let answer = t.resume(&key, &checked(block)).0;
+        t.expect("resume", answer, 6);
     }
     t.done();
 }
 
-/// A page parked near the text limit, where the walk is longest, under short buffers and damage.
+/// A page suspended near the text limit, where the walk is longest, under short buffers and damage.
 #[test]
 fn longest_walks() {
     let mut t = Tester::new("longest walks");
@@ -276,14 +276,14 @@ fn longest_walks() {
         if !t.chosen() {
             continue;
         }
-        let Parked { key, block } = parked(&mut t, 33, text_len, true);
+        let Suspended { key, block } = suspended(&mut t, 33, text_len, true);
         for (session_len, iv_len) in [(SESSION_BYTES - 1, 16), (SESSION_BYTES, 15), (0, 0)] {
-            let answer = t.take_up_in(&key, &block, session_len, iv_len).0;
-            t.expect("take_up", answer, 4);
+            let answer = t.resume_in(&key, &block, session_len, iv_len).0;
+            t.expect("resume", answer, 4);
         }
         let near = with(&block, 16, &[block[16] ^ 1]);
-        let answer = t.take_up(&key, &near).0;
-        t.expect("take_up", answer, 6);
+        let answer = t.resume(&key, &near).0;
+        t.expect("resume", answer, 6);
     }
     t.done();
 }
