@@ -1,4 +1,4 @@
--- The calls of a session as C makes them, park and take up with them (document 01, "Sessions and parking"), on sessions in 216 bytes. For each:
+-- The calls of a session as C makes them, suspend and resume with them (document 01, "Sessions and parking": park and take up), on sessions in 216 bytes. For each:
 -- the number that it answers, which is that of the call below, with 8, first of all, for a session of another length, and 4, last, for a buffer
 -- that is too short; what it leaves in a session that it was lent to write; and what stands in its output. A refusal changes no byte.
 use Prim.Native.Nat.{ℕ}
