@@ -7,6 +7,7 @@ use Rattle.words.specs.Bytes.{Row, IsBlock}
 use Rattle.words.proofs.Rows.{Below, tab-all}
 use Rattle.aes.specs.Field.{sub}
 use Rattle.aes.specs.Unround.{unsub, unsubBytes, unshiftRows, unmixColumns, unround}
+use Rattle.aes.specs.Laws.{RoundUndone}
 use Rattle.aes.specs.Round.{subBytes, gathered, shiftRows, mixColumns, round}
 use Rattle.aes.proofs.Lists.{map-row, map-undo}
 use Rattle.aes.proofs.Boxes.{sub-lt, unsub-lt, unsub-sub, sub-unsub}
@@ -60,3 +61,6 @@ module _ (s : List ℕ) (h : IsBlock s) where
       ap (λ (t : List ℕ). mixColumns (shiftRows t)) (map-undo unsub sub sub-unsub (unshiftRows (unmixColumns s)) (unshifted .below))
       ∙ ap mixColumns (shift-unshift (unmixColumns s) (unmixed .long))
       ∙ mix-unmix s
+
+pub undone : RoundUndone
+undone = record { back = unround-round; forth = round-unround }

@@ -3,3 +3,4 @@ pub mod Round
 pub mod Unround
 pub mod Tables
 pub mod Columns
+pub mod Laws

@@ -1,5 +1,5 @@
--- The round undone, FIPS 197, section 5.3. These definitions need not be believed by reading: `unround-round` and `round-unround` of proofs/Rounds.antt
--- say that the round and this undo each other on every block, and what is stated above names neither.
+-- The round undone, FIPS 197, section 5.3. These definitions need not be believed by reading: `RoundUndone` of Laws.antt says that the round and this undo
+-- each other on every block.
 use Prim.Native.Nat.{ℕ}
 use mathlib.Core.List.{List, [], _∷_, map}
 use Rattle.words.specs.Xor.{_⊕_}

@@ -6,7 +6,7 @@ use Rattle.cipher.specs.Back.{back}
 use Rattle.cipher.specs.Run.{backward, made}
 use Rattle.cipher.specs.Laws.{StepsBack}
 use Rattle.cipher.proofs.Inverse.{back-step, step-back}
-use Rattle.cipher.proofs.Moves.{moves-undone, zs-undone}
+use Rattle.cipher.proofs.Moves.{move-good, moves-undone, zs-undone}
 
 its-z : (s t : Registers) → IsRegisters t → step t ≡ s → made backward s ≡ z t
 unfolding made
@@ -18,5 +18,6 @@ steps-back =
       only = λ s t g h. (λ e. ap back (sym e) ∙ back-step t h, λ e. ap step (sym e) ∙ step-back s g);
       its-z = its-z;
       returns = moves-undone;
+      stays = move-good;
       blocks-again = zs-undone;
     }

@@ -1,5 +1,5 @@
 -- One step back (document 01, "Round, step and step back"): the registers whose step leads here. These definitions need not be believed by
--- reading: `step-back` and `back-step` of proofs/Inverse.antt say that `back` is the one inverse of `step` on all registers.
+-- reading: `StepsBack` of Laws.antt says that `back` is the one inverse of `step` on all registers.
 use Prim.Native.Nat.{ℕ}
 use mathlib.Core.List.{List}
 use lib.ListN.{take}

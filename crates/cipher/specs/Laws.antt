@@ -7,7 +7,7 @@ use mathlib.Core.List.{List, [], _∷_, _++_}
 use Rattle.cipher.specs.Registers.{Registers, IsRegisters}
 use Rattle.cipher.specs.Step.{z, step}
 use Rattle.cipher.specs.Back.{back}
-use Rattle.cipher.specs.Run.{backward, made, moves, zs}
+use Rattle.cipher.specs.Run.{backward, move, made, moves, zs}
 
 -- blocks in the opposite order
 abbrev pub reversed : List (List ℕ) → List (List ℕ)
@@ -21,5 +21,7 @@ pub record StepsBack : Type 0 where
   pub its-z : (s t : Registers) → IsRegisters t → step t ≡ s → made backward s ≡ z t
   -- "From every state, equally many steps forward and back, or back and forward, return it."
   pub returns : (d : Bool) (n : ℕ) (s : Registers) → IsRegisters s → moves (not d) n (moves d n s) ≡ s
+  -- Either way registers lead to registers.
+  pub stays : (d : Bool) (s : Registers) → IsRegisters s → IsRegisters (move d s)
   -- The blocks of the way back are those of the way there, in the opposite order.
   pub blocks-again : (d : Bool) (n : ℕ) (s : Registers) → IsRegisters s → zs (not d) n (moves d n s) ≡ reversed (zs d n s)

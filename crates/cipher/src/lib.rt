@@ -200,7 +200,8 @@ pub fn step_by_value(s: State) -> Stepped
 
 // One step back: the only state whose step leads to this one, and that step's z.
 pub fn back_by_value(s: State) -> Stepped
-    ensures { λ r. ⌜ Steps backward s r ⌝ }
+    ensures back { λ r. ⌜ Steps backward s r ⌝ }
+    ensures leads { λ r. ⌜ (Step.step (registersOf (r .state)) ≡ registersOf s) × (r .z ≡ Step.z (registersOf (r .state))) ⌝ }
 {
     let inverse = aes::inverse_sbox();
     let w = backward(s, &inverse);

@@ -15,13 +15,14 @@ use Rattle.start.specs.Leads.{LeadsTo}
 use Rattle.start.proofs.Answers.{both-right}
 use Rattle.start.proofs.Undo.{start-good}
 use Rattle.start.proofs.Tracing.{leads-one, traces}
+use Rattle.suspend.proofs.Resuming.{revives}
 use Rattle.session.specs.Calls.{begin-call}
 use Rattle.page.proofs.WholeCalls.{refuse-none}
 use Rattle.claims.specs.Lists.{Bytes, History, History.in-session, History.in-runs, key-of, iv-of, mode-of, Accepted, end, drawn}
 use Rattle.claims.specs.Claims.{Keyed, SealsByPieces, SealsAndOpens, OneStayPerState}
 use Rattle.claims.proofs.Within.{row-of}
 use Rattle.claims.proofs.SuspendedLists.{state-leads, suspended, resumed, written}
-use Rattle.claims.proofs.Pieces.{page, any-list, session-after}
+use Rattle.claims.proofs.Pieces.{page, any-list, writes, session-after}
 use Rattle.claims.proofs.Opening.{seals, opens, gives-back, no-other}
 use Rattle.claims.proofs.Runs.{course-leads}
 
@@ -32,6 +33,7 @@ seals-by-pieces =
     record {
       page = page;
       any-list = any-list;
+      writes = writes;
       session = session-after;
       resumed = λ key iv l cs out room. (suspended key iv l cs out room, resumed key iv l cs out (suspended key iv l cs out room));
     }
@@ -97,6 +99,7 @@ one-stay-per-state =
       names = λ a e fits.
           traces (end a) (end-good a e) (key-of a) (drawn a) (key-row a e .below) .found (iv-of a) (mode-of a) .1 ((key-row a e .long, fits), leads a e);
       traces = λ s g key n. traces s g (key .list) n (key .below);
+      revives = λ key block. revives (key .list) (block .list) (key .below) (block .below);
       registers-written = λ key iv cs e out n. written key iv (begin-keyed key iv e) cs out n;
       resumed = λ key iv cs e out n. resumed key iv (begin-keyed key iv e) cs out n;
     }

@@ -1,18 +1,22 @@
 -- Sealing by pieces: every list has written the page's ciphertext, and its session's finish gives the page's tag; and of a list of pieces that
 -- join to a page within the limits every piece is accepted.
-use mathlib.Core.Path.{_≡_, refl, sym, ap, _∙_}
+use mathlib.Core.Path.{_≡_, refl, sym, ap, subst, _∙_}
+use mathlib.Core.Bool.{Bool, true, false}
 use mathlib.Core.List.{List, [], _∷_, _++_, append-nil, append-assoc}
 use Prim.Native.Nat.{ℕ, zero, suc, _+_, _≤_}
 use native.Mathlib.Omega.{arith}
-use lib.ListN.{getD, length, length-append}
+use borrow.Author.Tests.{eqb-true}
+use lib.Dec.{eqb}
+use lib.ListN.{getD, length, drop, length-append}
 use Rattle.scope.specs.Limits.{most-data, most-text}
 use Rattle.words.specs.Bytes.{Row, IsBlock}
-use Rattle.session.specs.Calls.{Given, finish-call}
-use Rattle.page.specs.Page.{cipher-of, page-tag}
+use Rattle.scope.specs.Refusals.{granted}
+use Rattle.session.specs.Calls.{Given, text-number, text-call, finish-call}
+use Rattle.page.specs.Page.{encrypted, cipher-of, page-tag}
 use Rattle.page.specs.Reached.{session-of}
 use Rattle.page.proofs.Reached.{session-is}
 use Rattle.page.proofs.Stages.{Stage, Stage.taking-data, Stage.taking-text, ad-of, text-of, session-at}
-use Rattle.page.proofs.WholeCalls.{begin-call-at, data-call-at, text-call-at, finish-call-at}
+use Rattle.page.proofs.WholeCalls.{begin-call-at, data-call-at, text-call-at, text-accepted, finish-call-at}
 use Rattle.claims.specs.Lists.{Bytes, Call, Call.give-data, Call.give-text, Call.suspend-alone, Call.suspend-and-resume, Trail, call, calls, answers, after, data-pieces, text-pieces, TextOn, DataThenText, Joins}
 use Rattle.claims.specs.Claims.{Keyed, AllAccepted, SealedByPieces}
 use Rattle.claims.proofs.Within.{row-of, Within, none-within, data-within, text-within}
@@ -146,3 +150,36 @@ session-after key iv l cs =
     let r = after-reached key iv l cs in
     ap (λ (u : Trail). u .session) (r .is) ∙ session-is (key .list) (iv .list) (r .stage)
     ∙ sym (ap (λ (u : Trail). session-of (key .list) (iv .list) (u .ad) (u .text) (u .closed)) (r .is))
+
+-- ---- what a text piece writes
+
+module _ (key iv : List ℕ) (p out : List ℕ) where
+  abbrev Writes : Stage → Type 0
+  Writes g =
+      text-call (session-at key iv g) p out .out
+      ≡ granted (text-call (session-at key iv g) p out .number) (encrypted key iv (length (text-of g)) p ++ drop (length p) out) out
+
+  writes-at : (g : Stage) → Writes g
+  unfolding text-call
+  writes-at g = go (eqb (text-number (session-at key iv g) p out) 0) refl
+    where
+      go : (b : Bool) → eqb (text-number (session-at key iv g) p out) 0 ≡ b → Writes g
+      go true e =
+          let a = text-accepted key iv g p out (eqb-true (text-number (session-at key iv g) p out) 0 e) in
+          let c = text-call-at key iv g p out (a .0) (a .1) in
+          ap (λ (x : Given). x .out) c
+          ∙ sym (ap (λ (n : ℕ). granted n (encrypted key iv (length (text-of g)) p ++ drop (length p) out) out) (ap (λ (x : Given). x .number) c))
+      go false e = rw e
+
+pub writes : (key iv : Bytes) → Keyed key iv → (cs : List Call) (p out : Bytes)
+    → let t = after key iv cs in
+    let g = text-call (t .session) (p .list) (out .list) in
+    g .out ≡ granted (g .number) (encrypted (key .list) (iv .list) (length (t .text)) (p .list) ++ drop (length (p .list)) (out .list)) (out .list)
+writes key iv l cs p out =
+    let r = after-reached key iv l cs in
+    subst
+    (λ (u : Trail).
+        text-call (u .session) (p .list) (out .list) .out
+            ≡ granted (text-call (u .session) (p .list) (out .list) .number)
+            (encrypted (key .list) (iv .list) (length (u .text)) (p .list) ++ drop (length (p .list)) (out .list)) (out .list))
+    (sym (r .is)) (writes-at (key .list) (iv .list) (p .list) (out .list) (r .stage))

@@ -9,7 +9,8 @@ use Rattle.cipher.specs.Run.{forward, moves}
 use Rattle.start.specs.Start.{Mode.sealed, start}
 use Rattle.session.specs.Session.{Session, drawn-at}
 use Rattle.layout.specs.Block.{registers-at}
-use Rattle.suspend.specs.Calls.{suspend-call, resume-call}
+use Rattle.suspend.specs.Calls.{suspend-call}
+use Rattle.suspend.specs.Walk.{resume-call}
 use Rattle.page.proofs.Stages.{session-at}
 use Rattle.claims.specs.Lists.{Bytes, Call, Trail, after, cipher-state}
 use Rattle.claims.specs.Claims.{Keyed, suspended-number, suspended-out, Resumes}

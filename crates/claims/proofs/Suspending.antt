@@ -12,7 +12,8 @@ use Rattle.start.specs.Start.{Mode.sealed, start}
 use Rattle.session.specs.Session.{drawn-at}
 use Rattle.layout.specs.Block.{registers-at}
 use Rattle.layout.specs.Rules as rules
-use Rattle.suspend.specs.Calls.{suspend-call, resume-call}
+use Rattle.suspend.specs.Calls.{suspend-call}
+use Rattle.suspend.specs.Walk.{resume-call}
 use Rattle.suspend.proofs.RoundTrip.{Led, suspend-accepted, suspend-registers, resumes}
 use Rattle.page.proofs.Stages.{Stage, Stage.taking-data, Stage.taking-text, ad-of, text-of, phase-at, session-at}
 use Rattle.page.proofs.Holding.{phase-length, zeros-behind, hash-block, registers-good, pending-block}

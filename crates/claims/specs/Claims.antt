@@ -6,15 +6,16 @@ use mathlib.Core.Path.{_≡_}
 use mathlib.Core.List.{List, _++_}
 use lib.ListN.{getD, length, take, drop}
 use Rattle.scope.specs.Limits.{most-data, most-text, most-blocks}
-use Rattle.scope.specs.Refusals.{bad-tag}
+use Rattle.scope.specs.Refusals.{granted, bad-tag}
 use Rattle.words.specs.Bytes.{part}
 use Rattle.cipher.specs.Registers.{Registers, IsRegisters}
 use Rattle.start.specs.Leads.{LeadsTo, Traced.origin, Traces}
 use Rattle.start.specs.Trace.{trace}
-use Rattle.session.specs.Calls.{begin-call, finish-call}
+use Rattle.session.specs.Calls.{begin-call, text-call, finish-call}
 use Rattle.layout.specs.Block.{registers-at}
-use Rattle.suspend.specs.Calls.{suspend-call, resume-call}
-use Rattle.page.specs.Page.{cipher-of, tag-for, page-tag}
+use Rattle.suspend.specs.Calls.{suspend-call, Revives}
+use Rattle.suspend.specs.Walk.{resume-call}
+use Rattle.page.specs.Page.{encrypted, cipher-of, tag-for, page-tag}
 use Rattle.page.specs.Calls.{seal-number, seal-out, seal-tag, open-number, open-out}
 use Rattle.page.specs.Reached.{session-of}
 use Rattle.claims.specs.Lists.{Bytes, Call, after, answers-of, Joins, History, History.in-session, key-of, iv-of, mode-of, Accepted, end, drawn}
@@ -64,6 +65,11 @@ pub record SealsByPieces : Type 0 where
       → Joins cs ad text → AllAccepted key iv cs ad text × SealedByPieces key iv cs ad text
   -- For every list of calls at all, refused ones included: the same of the pieces that were accepted.
   pub any-list : (key iv : Bytes) → Keyed key iv → (cs : List Call) → SealedByPieces key iv cs (after key iv cs .ad) (after key iv cs .text)
+  -- After every list of calls a text piece writes the page's ciphertext of it, as many bytes as it has, and nothing behind them; a refused one writes nothing.
+  pub writes : (key iv : Bytes) → Keyed key iv → (cs : List Call) (p out : Bytes)
+      → let t = after key iv cs in
+      let g = text-call (t .session) (p .list) (out .list) in
+      g .out ≡ granted (g .number) (encrypted (key .list) (iv .list) (length (t .text)) (p .list) ++ drop (length (p .list)) (out .list)) (out .list)
   -- After every list of calls the session is what key, IV and the accepted pieces make it.
   pub session : (key iv : Bytes) → Keyed key iv → (cs : List Call)
       → let t = after key iv cs in t .session ≡ session-of (key .list) (iv .list) (t .ad) (t .text) (t .closed)
@@ -151,6 +157,9 @@ pub record OneStayPerState : Type 0 where
   -- stay number or mode leads there. The registers of every `State` of the code are such registers (`every-state` of crates/cipher/proofs/Typed.antt),
   -- and the contract of `start::trace` says the same of every `State` and every lent key, without a hypothesis.
   pub traces : (s : Registers) → IsRegisters s → (key : Bytes) (n : ℕ) → Traces s (key .list) n (trace s (key .list) n)
+  -- Resume answers likewise on every block, one that nobody here wrote included: 0 with an IV exactly if it leads to the block's registers in sealed mode, 6
+  -- exactly if none does.
+  pub revives : (key block : Bytes) → Revives (key .list) (block .list) (resume-call (key .list) (block .list))
   -- Every accepted suspend of where a list ended writes the registers of that cipher state at bytes 16-127, whatever output it is lent.
   pub registers-written : (key iv : Bytes) (cs : List Call) → Accepted (in-session key iv cs) → (out : Bytes) → suspended-number key iv cs out ≡ 0
       → registers-at (part 16 112 (suspended-out key iv cs out)) ≡ end (in-session key iv cs)

@@ -16,7 +16,8 @@ use Rattle.start.specs.Start.{Mode, Mode.sealed, start, start-number, blank}
 use Rattle.session.specs.Session.{Session, drawn-at}
 use Rattle.session.specs.Calls.{begin-call, data-call, text-call}
 use Rattle.layout.specs.Block.{registers-at}
-use Rattle.suspend.specs.Calls.{suspend-call, resume-call}
+use Rattle.suspend.specs.Calls.{suspend-call}
+use Rattle.suspend.specs.Walk.{resume-call}
 
 -- what a lent slice holds
 pub record Bytes : Type 0 where

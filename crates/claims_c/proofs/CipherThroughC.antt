@@ -15,17 +15,22 @@ use Rattle.cipher.specs.Registers.{Registers, IsRegisters}
 use Rattle.cipher.specs.Run.{forward, blocks, run-number, run-part}
 use Rattle.cipher.proofs.Moves.{blocks-length}
 use Rattle.start.specs.Start.{start, start-number}
-use Rattle.start.specs.Leads.{Traced, Traced.origin, Traced.refused}
+use Rattle.start.specs.Leads.{Traced, Traced.origin, Traced.refused, Traces}
 use Rattle.start.specs.Trace.{trace}
 use Rattle.start.proofs.Answers as answers
 use Rattle.start.proofs.Undo.{start-good}
+use Rattle.start.proofs.Tracing.{traces as trace-law}
+use Rattle.page.specs.Page.{cipher-of}
+use Rattle.page.specs.Calls.{seal-number, seal-out, seal-tag}
+use Rattle.layout.proofs.RegisterBytes.{at-good}
 use Rattle.layout.specs.Block.{registers-at}
 use Rattle.claims.specs.Lists.{Bytes}
 use Rattle.claims.proofs.Within.{row-of}
 use Rattle.claims.proofs.Demands.{start-keyed}
 use Rattle.tulvekas.specs.Order.{next, room}
+use Rattle.tulvekas.specs.Pages.{seal-answer, seal-writes, seal-writes-tag}
 use Rattle.tulvekas.specs.Cipher.{mode-of, fitting, keystream-answer, keystream-writes, mode-byte, trace-of-bytes, trace-answer, trace-iv, trace-sealed}
-use Rattle.tulvekas.proofs.Answering.{fits, accepted, below-refuses, below-accepts}
+use Rattle.tulvekas.proofs.Answering.{fits, accepted, below-refuses, below-accepts, nothing-later, granted-again}
 use Rattle.tulvekas.proofs.CipherAnswers.{trace-bad-key, trace-walks}
 use Rattle.claims_c.specs.ThroughC.{Told, TracesThroughC}
 
@@ -115,7 +120,34 @@ module _ (s key : List ℕ) (n : ℕ) (long : length s ≡ 112) where
       (sym z, (sym (accepted z (v ++ drop 16 iv) iv), sym (accepted z (mode-byte m ∷ drop 1 sb) sb)))
   told (refused i) iv sb h k = (refl, (refl, refl))
 
-  pub traces : TracesThroughC s key n (trace (registers-at s) key n)
-  traces iv sb h k =
+  pub tells : TracesThroughC s key n (trace (registers-at s) key n)
+  tells iv sb h k =
       subst (λ (a : Traced). Told (trace (registers-at s) key n) iv sb (trace-answer a iv sb) (trace-iv a iv sb) (trace-sealed a iv sb)) trace-is
       (told (trace (registers-at s) key n) iv sb h k)
+
+pub traces : (state key : Bytes) (count : ℕ) → length (state .list) ≡ 112
+    → (a : Traced) × (Traces (registers-at (state .list)) (key .list) count a × TracesThroughC (state .list) (key .list) count a)
+traces state key n long = (
+  trace (registers-at (state .list)) (key .list) n,
+  (
+    trace-law (registers-at (state .list)) (at-good (state .list) (row-of state long)) (key .list) n (key .below),
+    tells (state .list) (key .list) n long,
+  ),
+)
+
+-- ---- whole pages
+
+pub seals : (key iv ad text out tag : List ℕ) → 16 ≤ length tag
+    → (seal-answer key iv ad text out tag ≡ seal-number key iv ad text out)
+    × (seal-writes key iv ad text out tag ≡ seal-out key iv ad text out)
+    × (seal-writes-tag key iv ad text out tag ≡ granted (seal-number key iv ad text out) (seal-tag key iv ad text out ++ drop 16 tag) tag)
+unfolding seal-answer seal-out
+seals key iv ad text out tag room-16 =
+    let n : ℕ = seal-number key iv ad text out in
+    let e : next n (room 16 tag 0) ≡ n = ap (next n) (sym (fits 16 tag 0 room-16)) ∙ sym (nothing-later n) in
+    let o : List ℕ = cipher-of key iv text ++ drop (length text) out in
+    (
+      e,
+      ap (λ (i : ℕ). granted i (granted n o out) out) e ∙ sym (granted-again n o out),
+      ap (λ (i : ℕ). granted i (seal-tag key iv ad text out ++ drop 16 tag) tag) e,
+    )

@@ -13,7 +13,8 @@ use Rattle.scope.specs.Refusals.{granted}
 use Rattle.words.specs.Bytes.{Row, IsBlock}
 use Rattle.session.specs.Session.{Session}
 use Rattle.session.specs.Calls.{Given, data-call, text-call, finish-call}
-use Rattle.suspend.specs.Calls.{suspend-call, Resumed, resume-call}
+use Rattle.suspend.specs.Calls.{suspend-call, Resumed}
+use Rattle.suspend.specs.Walk.{resume-call}
 use Rattle.page.proofs.Stages.{Stage, Stage.taking-data, Stage.taking-text, phase-at, session-at}
 use Rattle.page.proofs.Ciphertext.{stream-block}
 use Rattle.page.proofs.Holding.{hash-block, registers-good, pending-block}
@@ -110,6 +111,10 @@ module _ (s : Session) (g : Sized s) where
       ∙ ap (next (finish-call s .number)) (sym (fits 16 tag 0 room-16))
       ∙ sym (nothing-later (finish-call s .number))
 
+  finish-kept : eqb (finish-call s .number) 0 ≡ false → finish-call s .session ≡ s
+  unfolding finish-call
+  finish-kept e = rw e
+
   pub stands : Stands bytes s
   unfolding bytes data-answer text-answer suspend-answer
   stands =
@@ -122,6 +127,9 @@ module _ (s : Session) (g : Sized s) where
         finish-answers = finished;
         finish-output =
             λ tag room-16. ap₂ (λ (n : ℕ) (o : List ℕ). buffer-after n 16 o tag) (finished tag room-16) (listed (λ (u : Session). finish-call u .out));
+        finish-session = λ tag room-16.
+            ap₂ (λ (n : ℕ) (u : Session). left n u bytes) (finished tag room-16) (listed (λ (u : Session). finish-call u .session))
+                ∙ left-is (finish-call s .number) (finish-call s .session) finish-kept;
         suspend-answers = λ out. answers (λ (u : Session). suspend-call u out .number);
         suspend-output = λ out. call-written (λ (u : Session). suspend-call u out) out (suspend-again s out);
       }

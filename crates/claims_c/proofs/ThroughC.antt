@@ -18,7 +18,8 @@ use Rattle.layout.proofs.Obeying.{laid-long}
 use Rattle.start.proofs.Answers.{both-right}
 use Rattle.session.specs.Session.{Session, drawn-at}
 use Rattle.session.specs.Calls.{begin-call}
-use Rattle.suspend.specs.Calls.{Resumed, resume-call}
+use Rattle.suspend.specs.Calls.{Resumed}
+use Rattle.suspend.specs.Walk.{resume-call}
 use Rattle.page.proofs.Stages.{Stage, session-at}
 use Rattle.claims.specs.Lists.{Bytes, Call, Call.give-data, Call.give-text, Call.suspend-alone, Call.suspend-and-resume, Trail, call, calls, after, History, History.in-session, drawn}
 use Rattle.claims.specs.Claims.{Keyed, suspended-number, suspended-out, Resumes}
@@ -33,7 +34,7 @@ use Rattle.tulvekas.specs.Sessions.{begin-answer, suspend-writes}
 use Rattle.tulvekas.proofs.SessionAnswers.{begin-right}
 use Rattle.claims_c.specs.Lists.{left, Fresh, CCall, c-call, c-calls, c-after, below}
 use Rattle.claims_c.specs.ThroughC.{Stands, ResumesThroughC, TracesThroughC, ThroughC}
-use Rattle.claims_c.proofs.CipherThroughC.{keystream, traces}
+use Rattle.claims_c.proofs.CipherThroughC.{keystream, tells, traces, seals}
 use Rattle.claims_c.proofs.OnBytes.{stored, bytes, stands, data-left, text-left, answered, resumed-left, resumed-iv, resumed-fresh, sized-at}
 
 -- ---- lists of them
@@ -144,13 +145,14 @@ module _ (key iv : Bytes) (l : Keyed key iv) (session : List ℕ) (room-216 : le
           let state = ap (λ (x : List ℕ). registers-at (part 16 112 x)) (stands-after .suspend-output (out .list))
           ∙ one-stay-per-state .registers-written key iv (below cs) e out (both .0) in
           let found = ap (λ (s : Registers). trace s (key .list) (drawn h)) state ∙ one-stay-per-state .names h e (omega arith) in
-          subst (TracesThroughC (part 16 112 o) (key .list) (drawn h)) found (traces (part 16 112 o) (key .list) (drawn h) (state-long (key .list) o (ap (λ (b : List ℕ). resume-call (key .list) b .number) block-is ∙ ap (λ (x : Resumed). x .number) (both .1))))
+          subst (TracesThroughC (part 16 112 o) (key .list) (drawn h)) found (tells (part 16 112 o) (key .list) (drawn h) (state-long (key .list) o (ap (λ (b : List ℕ). resume-call (key .list) b .number) block-is ∙ ap (λ (x : Resumed). x .number) (both .1))))
 
 pub through-c : ThroughC
 through-c =
     record {
       stands = λ key iv l session room cs. stands-after key iv l session room cs;
       resumed = λ key iv l session room cs out room-512. resumes key iv l session room cs out room-512;
+      seals = seals;
       keystream = keystream;
       traces = traces;
       names = λ key iv l session room cs out room-512. names key iv l session room cs out room-512;

@@ -7,7 +7,7 @@ use lib.ListN.{length, take}
 use Rattle.scope.specs.Refusals.{granted}
 use Rattle.session.specs.Session.{Session}
 use Rattle.session.specs.Calls.{begin-call, data-call, text-call}
-use Rattle.suspend.specs.Calls.{resume-call}
+use Rattle.suspend.specs.Walk.{resume-call}
 use Rattle.claims.specs.Lists.{Bytes, Call, Call.give-data, Call.give-text, Call.suspend-alone, Call.suspend-and-resume}
 use Rattle.tulvekas.specs.Order.{buffer-after}
 use Rattle.tulvekas.specs.SessionBytes.{session-bytes, session-in}

@@ -7,15 +7,17 @@ use Rattle.scope.specs.Refusals.{granted}
 use Rattle.words.specs.Bytes.{part}
 use Rattle.cipher.specs.Run.{forward, run-number, run-part}
 use Rattle.start.specs.Start.{Mode.sealed, start, start-number}
-use Rattle.start.specs.Leads.{Traced, Traced.origin, Traced.refused}
-use Rattle.start.specs.Trace.{trace}
+use Rattle.start.specs.Leads.{Traced, Traced.origin, Traced.refused, Traces}
 use Rattle.session.specs.Session.{Session, drawn-at}
 use Rattle.session.specs.Calls.{data-call, text-call, finish-call}
 use Rattle.layout.specs.Block.{registers-at}
-use Rattle.suspend.specs.Calls.{suspend-call, resume-call}
+use Rattle.suspend.specs.Calls.{suspend-call}
+use Rattle.suspend.specs.Walk.{resume-call}
 use Rattle.claims.specs.Lists.{Bytes, after}
 use Rattle.claims.specs.Claims.{Keyed}
+use Rattle.page.specs.Calls.{seal-number, seal-out, seal-tag}
 use Rattle.tulvekas.specs.Order.{next}
+use Rattle.tulvekas.specs.Pages.{seal-answer, seal-writes, seal-writes-tag}
 use Rattle.tulvekas.specs.SessionBytes.{session-bytes, session-in}
 use Rattle.tulvekas.specs.Sessions.{data-answer, text-answer, text-writes, finish-answer, finish-writes, suspend-answer, suspend-writes, resume-answer, resume-writes}
 use Rattle.tulvekas.specs.Cipher.{mode-of, fitting, keystream-answer, keystream-writes, mode-byte, trace-of-bytes, trace-answer, trace-iv, trace-sealed}
@@ -30,6 +32,8 @@ pub record Stands (b : List ℕ) (s : Session) : Type 0 where
   pub text-output : (p out : List ℕ) → text-writes b p out ≡ text-call s p out .out
   pub finish-answers : (tag : List ℕ) → 16 ≤ length tag → finish-answer b tag ≡ finish-call s .number
   pub finish-output : (tag : List ℕ) → 16 ≤ length tag → finish-writes b tag ≡ granted (finish-call s .number) (finish-call s .out ++ drop 16 tag) tag
+  pub finish-session : (tag : List ℕ) → 16 ≤ length tag
+      → left (finish-answer b tag) (finish-call (session-in b) .session) b ≡ session-bytes (finish-call s .session)
   pub suspend-answers : (out : List ℕ) → suspend-answer b out ≡ suspend-call s out .number
   pub suspend-output : (out : List ℕ) → suspend-writes b out ≡ suspend-call s out .out
 
@@ -62,13 +66,19 @@ pub record ThroughC : Type 0 where
   pub resumed : (key iv : Bytes) → Keyed key iv → (session : List ℕ) → length session ≡ 216 → (cs : List CCall) (out : Bytes) → 512 ≤ length (out .list)
       → (fresh into : List ℕ) → 216 ≤ length fresh → 16 ≤ length into
       → ResumesThroughC (key .list) (iv .list) (c-after key iv session cs) (out .list) fresh into
+  -- With room for the tag, seal answers and writes what seal below does; open is the very call below.
+  pub seals : (key iv ad text out tag : List ℕ) → 16 ≤ length tag
+      → (seal-answer key iv ad text out tag ≡ seal-number key iv ad text out)
+      × (seal-writes key iv ad text out tag ≡ seal-out key iv ad text out)
+      × (seal-writes-tag key iv ad text out tag ≡ granted (seal-number key iv ad text out) (seal-tag key iv ad text out ++ drop 16 tag) tag)
   -- Keystream answers and writes what start and a run forward of as many whole blocks as fit do.
   pub keystream : (key iv : Bytes) (mode : ℕ) (out : List ℕ)
       → let blocks = run-part forward (start (key .list) (iv .list) (mode-of mode)) (length out) (fitting out) in
       (keystream-answer (key .list) (iv .list) out ≡ next (start-number (key .list) (iv .list)) (run-number (length out) (fitting out)))
       × (keystream-writes (key .list) (iv .list) mode out ≡ granted (start-number (key .list) (iv .list)) (blocks ++ drop (length blocks) out) out)
-  -- Trace tells what trace below does of the registers that 112 bytes list.
-  pub traces : (state key : List ℕ) (count : ℕ) → length state ≡ 112 → TracesThroughC state key count (trace (registers-at state) key count)
+  -- Trace tells the answer that `Traces` says of the registers that 112 bytes list: an IV and mode exactly if they lead there.
+  pub traces : (state key : Bytes) (count : ℕ) → length (state .list) ≡ 112
+      → (a : Traced) × (Traces (registers-at (state .list)) (key .list) count a × TracesThroughC (state .list) (key .list) count a)
   -- A state names its stay: after every list, trace from bytes 16 to 127 of what suspend wrote, at the blocks drawn, tells the begin's IV and sealed mode.
   pub names : (key iv : Bytes) → Keyed key iv → (session : List ℕ) → length session ≡ 216 → (cs : List CCall) (out : Bytes) → 512 ≤ length (out .list)
       → TracesThroughC (part 16 112 (suspend-writes (c-after key iv session cs) (out .list))) (key .list) (drawn-at (length (after key iv (below cs) .text)))

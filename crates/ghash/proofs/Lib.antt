@@ -6,3 +6,4 @@ pub mod Filling
 pub mod Reading
 pub mod Hashing
 pub mod Cases
+pub mod Typed

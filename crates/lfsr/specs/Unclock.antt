@@ -1,6 +1,6 @@
 -- One clock back. The documents only say that the clock is one-to-one (document 01, "Round, step and step back"; SNOW-V paper, appendix A),
--- so that this is believed not by reading but by two laws: `unclock-clock` and `clock-unclock`, that a clock and a clock back undo each
--- other, either way round. Registers and cells are those of the clock.
+-- so that this is believed not by reading but by `OneToOne` of Laws.antt: a clock and a clock back undo each other, either way round.
+-- Registers and cells are those of the clock.
 use Prim.Native.Nat.{ℕ, zero, suc, _-_, _*_, _/_, _%_, _^_}
 use mathlib.Core.List.{List, _∷_}
 use lib.ListN.{take}

@@ -18,6 +18,7 @@ use Rattle.cipher.specs.Run.{forward, backward, moves}
 use Rattle.cipher.proofs.Moves.{moves-good, moves-undone}
 use Rattle.start.specs.Start.{Mode, start}
 use Rattle.start.specs.Leads.{LeadsTo, Traced, Traced.origin, Traced.refused, Traces}
+use Rattle.start.specs.Laws.{OneOrigin}
 use Rattle.start.specs.Trace.{loaded, unload, trace}
 use Rattle.start.proofs.Answers.{trace-bad-key, trace-too-far, trace-walks}
 use Rattle.start.proofs.Undo.{start-good, loaded-start, loaded-good, start-loaded}
@@ -56,10 +57,8 @@ module _ (key : List ℕ) (k : Row 32 256 key) (n : ℕ) where
   pub leads-one : {iv iv′ : List ℕ} {m m′ : Mode} {s : Registers} → LeadsTo key n iv m s → LeadsTo key n iv′ m′ s → (iv ≡ iv′) × (m ≡ m′)
   leads-one {iv} {iv′} {m} {m′} {s} p q = origin-one (walked s) iv iv′ m m′ (leads-walked p) (leads-walked q)
 
-  -- two starts that differ in IV or mode never meet at equal counts
-  pub never-meet : (iv iv′ : List ℕ) (m m′ : Mode) → IsBlock iv → IsBlock iv′ → ¬ ((iv ≡ iv′) × (m ≡ m′))
-      → ¬ (moves forward n (start key iv m) ≡ moves forward n (start key iv′ m′))
-  never-meet iv iv′ m m′ v v′ differ meet = differ (leads-one (record { iv-block = v; arrives = meet }) (record { iv-block = v′; arrives = refl }))
+pub one-origin : OneOrigin
+one-origin key k n s iv iv′ m m′ p q = leads-one key k n p q
 
 -- ---- what trace answers
 

@@ -2,3 +2,4 @@ pub mod Start
 pub mod Leads
 pub mod Trace
 pub mod Machine
+pub mod Laws

@@ -1,12 +1,14 @@
 -- The answers of a resume, by the key's length, the layout rules and what the trace finds: which IV leads to the block's registers, or that none does.
-use mathlib.Core.Path.{_≡_, refl, sym, ap, _∙_}
-use mathlib.Core.Bool.{true, false, true≢false}
+use mathlib.Core.Path.{_≡_, refl, sym, ap, subst, _∙_}
+use mathlib.Core.Bool.{Bool, true, false, true≢false}
 use mathlib.Core.List.{List}
 use Prim.Native.Nat.{ℕ, suc, _+_}
 use native.Mathlib.Omega.{arith}
-use borrow.Author.Tests.{eq-eqb, ne-eqb}
+use borrow.Author.Tests.{eq-eqb, ne-eqb, eqb-true, eqb-false}
+use lib.Dec.{eqb}
 use lib.ListN.{length}
 use Rattle.words.specs.Bytes.{Row}
+use Rattle.words.proofs.Rows.{Below}
 use Rattle.cipher.specs.Registers.{Registers}
 use Rattle.cipher.specs.Run.{forward, backward, made, moves}
 use Rattle.cipher.proofs.Moves.{moves-good, made-again}
@@ -14,11 +16,14 @@ use Rattle.start.specs.Start.{Mode.plain, Mode.sealed, start, keystream}
 use Rattle.start.specs.Leads.{LeadsTo, Traced, Traced.origin, Traced.refused, Traceable, Traces}
 use Rattle.start.specs.Trace.{trace}
 use Rattle.start.proofs.Undo.{start-good}
+use Rattle.start.proofs.Tracing.{traces}
 use Rattle.session.specs.Session.{ceil16, drawn-at}
 use Rattle.layout.specs.Block.{read}
 use Rattle.layout.specs.Rules.{well-laid}
 use Rattle.layout.proofs.Obeying.{laid-text}
-use Rattle.suspend.specs.Calls.{not-resumed, revived, by-origin, resume-call, LeadsToBlock, Revives}
+use Rattle.layout.proofs.Taken.{read-fine}
+use Rattle.suspend.specs.Calls.{not-resumed, revived, LeadsToBlock, Revives}
+use Rattle.suspend.specs.Walk.{by-origin, resume-call}
 
 -- the step before stands the block drawn last
 pub last-drawn : (key iv : List ℕ) → Row 32 256 key → (t : ℕ) {s : Registers} → LeadsTo key (drawn-at t) iv sealed s
@@ -37,7 +42,7 @@ module _ (key b : List ℕ) where
   unfolding resume-call
   resume-bad-key h = rw (ne-eqb (length key) 32 h)
 
-  pub revives-bad-key : ¬ (length key ≡ 32) → Revives key b (not-resumed 1)
+  revives-bad-key : ¬ (length key ≡ 32) → Revives key b (not-resumed 1)
   revives-bad-key h =
       record {
         wrong-key = (λ e. h, λ f. refl);
@@ -52,7 +57,7 @@ module _ (key b : List ℕ) where
     unfolding resume-call
     resume-bad-block w = rw (eq-eqb (length key) 32 h, w)
 
-    pub revives-bad-block : well-laid b ≡ false → Revives key b (not-resumed 8)
+    revives-bad-block : well-laid b ≡ false → Revives key b (not-resumed 8)
     revives-bad-block w =
         let never : well-laid b ≡ true → ⊥ = λ e. true≢false (sym e ∙ w) in
         record {
@@ -90,7 +95,7 @@ module _ (key b : List ℕ) where
         traced : (iv : List ℕ) → LeadsToBlock key b iv → a ≡ origin iv sealed
         traced iv l = t .found iv sealed .1 (fits, l)
 
-        pub leads-there : (iv : List ℕ) → a ≡ origin iv sealed → LeadsToBlock key b iv
+        leads-there : (iv : List ℕ) → a ≡ origin iv sealed → LeadsToBlock key b iv
         leads-there iv e = t .found iv sealed .0 e .1
 
         nowhere : ((iv : List ℕ) → ¬ (a ≡ origin iv sealed)) → Revives key b (not-resumed 6)
@@ -103,13 +108,13 @@ module _ (key b : List ℕ) where
               session = λ e. absurd (omega arith);
             }
 
-        pub revives-refused : (n : ℕ) → a ≡ refused n → Revives key b (not-resumed 6)
+        revives-refused : (n : ℕ) → a ≡ refused n → Revives key b (not-resumed 6)
         revives-refused n e = nowhere (λ iv f. let z : _≡_ {A = ℕ} 0 1 = cc in omega arith)
 
-        pub revives-plain : (iv : List ℕ) → a ≡ origin iv plain → Revives key b (not-resumed 6)
+        revives-plain : (iv : List ℕ) → a ≡ origin iv plain → Revives key b (not-resumed 6)
         revives-plain iv e = nowhere (λ v f. let z : _≡_ {A = ℕ} 0 1 = cc in omega arith)
 
-        pub revives-sealed : (iv : List ℕ) → a ≡ origin iv sealed → Revives key b (record { number = 0; iv = iv; session = revived key iv (read b) })
+        revives-sealed : (iv : List ℕ) → a ≡ origin iv sealed → Revives key b (record { number = 0; iv = iv; session = revived key iv (read b) })
         revives-sealed iv e =
             record {
               wrong-key = (λ f. absurd (omega arith), λ f. absurd (f h));
@@ -121,3 +126,21 @@ module _ (key b : List ℕ) where
           where
             one : (v : List ℕ) → a ≡ origin v sealed → iv ≡ v
             one v f = cc
+
+  -- of every key and every block
+  pub revives : Below 256 key → Below 256 b → Revives key b (resume-call key b)
+  revives kb bb = by (eqb (length key) 32) refl (well-laid b) refl
+    where
+      found : (h : length key ≡ 32) (w : well-laid b ≡ true) (a : Traced) → a ≡ trace (read b .registers) key (drawn-at (read b .text))
+          → Revives key b (resume-call key b)
+      found h w (origin iv plain) e =
+          subst (Revives key b) (resume-plain h w e iv refl) (revives-plain h w (rw e (traces (read b .registers) (read-fine b bb w .registers-good) key _ kb)) iv refl)
+      found h w (origin iv sealed) e =
+          subst (Revives key b) (resume-sealed h w e iv refl) (revives-sealed h w (rw e (traces (read b .registers) (read-fine b bb w .registers-good) key _ kb)) iv refl)
+      found h w (refused n) e =
+          subst (Revives key b) (resume-refused h w e n refl) (revives-refused h w (rw e (traces (read b .registers) (read-fine b bb w .registers-good) key _ kb)) n refl)
+
+      by : (i : Bool) → eqb (length key) 32 ≡ i → (j : Bool) → well-laid b ≡ j → Revives key b (resume-call key b)
+      by false p j q = let h = eqb-false (length key) 32 p in subst (Revives key b) (resume-bad-key h) (revives-bad-key h)
+      by true p false q = let h = eqb-true (length key) 32 p in subst (Revives key b) (resume-bad-block h q) (revives-bad-block h q)
+      by true p true q = found (eqb-true (length key) 32 p) q (trace (read b .registers) key (drawn-at (read b .text))) refl

@@ -19,7 +19,8 @@ use Rattle.session.specs.Session.{Session, ceil16, drawn-at}
 use Rattle.layout.specs.Block.{registers-at, block-of}
 use Rattle.layout.specs.Laws.{Fine}
 use Rattle.layout.proofs.Written.{block-row, block-laid, registers-block, read-block}
-use Rattle.suspend.specs.Calls.{suspended-of, suspend-number, suspend-call, revived, by-origin, resume-call}
+use Rattle.suspend.specs.Calls.{suspended-of, suspend-number, suspend-call, revived}
+use Rattle.suspend.specs.Walk.{by-origin, resume-call}
 
 -- what a session is where key and IV lead, at the blocks that its text has drawn
 pub record Led (key iv : List ℕ) (s : Session) : Type 0 where

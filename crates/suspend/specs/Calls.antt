@@ -5,13 +5,12 @@ use mathlib.Core.Path.{_≡_}
 use mathlib.Core.Logic.{_↔_}
 use mathlib.Core.Bool.{true, false, not}
 use mathlib.Core.List.{List, _++_}
-use lib.Dec.{eqb, ltb}
+use lib.Dec.{ltb}
 use lib.ListN.{length, drop}
-use Rattle.scope.specs.Refusals.{pick, refuse, granted, key-length, short-output, no-origin, out-of-phase, bad-block}
+use Rattle.scope.specs.Refusals.{refuse, granted, key-length, short-output, no-origin, out-of-phase, bad-block}
 use Rattle.words.specs.Bytes.{zeros}
-use Rattle.start.specs.Start.{Mode.plain, Mode.sealed, keystream}
-use Rattle.start.specs.Leads.{LeadsTo, Traced, Traced.origin, Traced.refused}
-use Rattle.start.specs.Trace.{trace}
+use Rattle.start.specs.Start.{Mode.sealed, keystream}
+use Rattle.start.specs.Leads.{LeadsTo}
 use Rattle.session.specs.Session.{Session, ceil16, drawn-at}
 use Rattle.session.specs.Calls.{Given, no-session}
 use Rattle.layout.specs.Block.{Suspended, block-of, read}
@@ -60,20 +59,6 @@ revived key iv k =
       current = keystream key iv (1 + ceil16 (k .text));
       sum = k .sum;
     }
-
--- 6: no IV leads to the registers in sealed mode
-unfoldable pub by-origin : (key : List ℕ) → Suspended → Traced → Resumed
-by-origin key k (origin iv plain) = not-resumed no-origin
-by-origin key k (origin iv sealed) = record { number = 0; iv = iv; session = revived key iv k }
-by-origin key k (refused n) = not-resumed no-origin
-
-unfoldable pub resume-call : (key block : List ℕ) → Resumed
-resume-call key b =
-    pick (not (eqb (length key) 32))
-    (not-resumed key-length)
-    (pick (not (well-laid b)) (not-resumed bad-block) (by-origin key (read b) (trace (read b .registers) key (drawn-at (read b .text)))))
-
--- What resume answers, in terms of "leads to" alone: how the walk back goes need not be believed by reading.
 
 -- a key of 32 bytes, and a block that obeys the layout rules: neither 1 nor 8
 abbrev pub Resumable : (key block : List ℕ) → Type 0

@@ -10,7 +10,8 @@ use Rattle.session.specs.Calls.{Given, begin-call, text-number, text-call, fini
 use Rattle.session.specs.Pieces.{closed, text-out}
 use Rattle.session.proofs.Numbers.{finish-late, finish-due}
 use Rattle.layout.specs.Block.{block-of}
-use Rattle.suspend.specs.Calls.{suspended-of, suspend-number, suspend-call, resume-call}
+use Rattle.suspend.specs.Calls.{suspended-of, suspend-number, suspend-call}
+use Rattle.suspend.specs.Walk.{resume-call}
 use Rattle.tulvekas.specs.Order.{next, room}
 use Rattle.tulvekas.specs.SessionBytes.{session-in}
 use Rattle.tulvekas.specs.Sessions.{whole, begin-answer, finish-answer, resume-answer}

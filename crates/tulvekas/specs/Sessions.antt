@@ -8,7 +8,8 @@ use lib.Dec.{eqb}
 use lib.ListN.{length}
 use Rattle.scope.specs.Refusals.{refuse, granted, bad-block}
 use Rattle.session.specs.Calls.{begin-call, data-call, text-call, finish-call}
-use Rattle.suspend.specs.Calls.{suspend-call, resume-call}
+use Rattle.suspend.specs.Calls.{suspend-call}
+use Rattle.suspend.specs.Walk.{resume-call}
 use Rattle.tulvekas.specs.Order.{next, room, buffer-after}
 use Rattle.tulvekas.specs.SessionBytes.{session-in, Leaves}
 

@@ -8,39 +8,45 @@ use borrow.Author.Tests.{not-true, not-false}
 use denote.Ref.{now}
 use Rattle.scope.specs.Limits.{most-text}
 use Rattle.words.specs.Bytes.{little}
+use Rattle.words.proofs.Typed.{known-bytes}
 use Rattle.cipher.specs.Registers.{Registers}
 use Rattle.cipher.specs.Machine.{registersOf}
 use Rattle.start.specs.Start.{Mode.sealed}
-use Rattle.start.specs.Leads.{LeadsTo, Traced.origin, Traces}
+use Rattle.start.specs.Leads.{LeadsTo, Traced.origin}
 use Rattle.start.specs.Trace.{trace}
 use Rattle.start.specs.Machine.{modeOf, tracedOf}
 use Rattle.session.specs.Session.{Session, drawn-at}
 use Rattle.layout.specs.Block.{Suspended, read}
 use Rattle.layout.specs.Rules.{well-laid}
 use Rattle.layout.proofs.Obeying.{laid-long, laid-text}
-use Rattle.suspend.specs.Calls.{Resumed, revived, resume-call, Revives}
-use Rattle.suspend.proofs.Resuming.{resume-bad-key, revives-bad-key, resume-bad-block, revives-bad-block, resume-refused, revives-refused, resume-plain, revives-plain, resume-sealed, revives-sealed}
+use Rattle.suspend.specs.Calls.{Resumed, revived, Revives}
+use Rattle.suspend.specs.Walk.{resume-call}
+use Rattle.suspend.proofs.Resuming.{revives, resume-bad-key, resume-bad-block, resume-refused, resume-plain, resume-sealed}
 use Rattle.suspend.proofs.resume.Statement.{statement}
 use Rattle.suspend.proofs.resume.Tie as tie
 
--- both clauses, of an answer r that is known to be g
-both : (key b : List ℕ) {r g : Resumed} → r ≡ g → Revives key b g → g ≡ resume-call key b → Revives key b r × (r ≡ resume-call key b)
-both key b e v w = (subst (Revives key b) (sym e) v, e ∙ w)
+-- both clauses, of an answer that is the walk's
+both : {r : Resumed} (c : tie.After-shared-slice-known2) → let a = c .before .before .args in r ≡ resume-call (now (a .key)) (now (a .block))
+    → Revives (now (a .key)) (now (a .block)) r × (r ≡ resume-call (now (a .key)) (now (a .block)))
+both c e =
+    let a = c .before .before .args in
+    let k = known-bytes (now (a .key)) (c .before .shared-slice-known .given) in
+    let b = known-bytes (now (a .block)) (c .shared-slice-known2 .given) in
+    (subst (Revives (now (a .key)) (now (a .block))) (sym e) (revives (now (a .key)) (now (a .block)) k b), e)
 
 returns : tie.Need-returns
 returns c =
-    let a = c .before .before .before .before .args in
-    let h = c .before .if1 .taken in
-    both (now (a .key)) (now (a .block)) (c .refused .ensures) (revives-bad-key (now (a .key)) (now (a .block)) h) (resume-bad-key (now (a .key)) (now (a .block)) h)
+    let entry = c .before .before in
+    let a = entry .before .before .args in
+    both entry (c .refused .ensures ∙ resume-bad-key (now (a .key)) (now (a .block)) (c .before .if1 .taken))
 
 returns-2 : tie.Need-returns-2
 returns-2 c =
     let w = c .before .before in
-    let l = w .before in
-    let a = l .before .before .before .args in
-    let h = l .if1 .left in
+    let entry = w .before .before in
+    let a = entry .before .before .args in
     let e = sym (w .well-laid .ensures) ∙ not-true _ (c .before .if2 .taken) in
-    both (now (a .key)) (now (a .block)) (c .refused2 .ensures) (revives-bad-block (now (a .key)) (now (a .block)) h e) (resume-bad-block (now (a .key)) (now (a .block)) h e)
+    both entry (c .refused2 .ensures ∙ resume-bad-block (now (a .key)) (now (a .block)) (w .before .if1 .left) e)
 
 -- the block obeys the rules
 laid : (c : tie.Else2) → well-laid (now (c .before .before .before .before .before .args .block)) ≡ true
@@ -66,38 +72,26 @@ walked c =
     ∙ ap₂ (λ (s : Registers) (n : ℕ). trace s (now (a .key)) n) (ap (λ (k : Suspended). k .registers) (r .read .ensures))
     (d .drawn .ensures ∙ ap (λ (k : Suspended). drawn-at (k .text)) (r .read .ensures))
 
-traces : (c : tie.After-trace)
-    → let a = c .before .before .before .before .before .before .before .before .before .args in
-    Traces (read (now (a .block)) .registers) (now (a .key)) (drawn-at (read (now (a .block)) .text)) (tracedOf (c .trace .result))
-traces c =
-    let d = c .before in
-    let r = d .before .before in
-    let a = r .before .before .before .before .before .before .args in
-    subst (λ (k : Suspended). Traces (k .registers) (now (a .key)) (drawn-at (k .text)) (tracedOf (c .trace .result))) (r .read .ensures)
-    (subst (λ (n : ℕ). Traces (registersOf (r .read .result .state)) (now (a .key)) n (tracedOf (c .trace .result))) (d .drawn .ensures) (c .trace .ensures .0))
-
 returns-3 : tie.Need-returns-3
 returns-3 c =
     let t = c .before .before .before in
     let l = t .before .before .before .before in
-    let a = l .before .before .before .before .before .args in
-    let h = l .before .before .if1 .left in
-    let e = ap tracedOf (c .before .enum-told .given .1) in
-    both (now (a .key)) (now (a .block)) (c .refused3 .ensures) (revives-refused (now (a .key)) (now (a .block)) h (laid l) (traces t) _ e)
-    (resume-refused (now (a .key)) (now (a .block)) h (laid l) (walked t) _ e)
+    let entry = l .before .before .before in
+    let a = entry .before .before .args in
+    both entry
+    (c .refused3 .ensures ∙ resume-refused (now (a .key)) (now (a .block)) (l .before .before .if1 .left) (laid l) (walked t) _ (ap tracedOf (c .before .enum-told .given .1)))
 
 returns-4 : tie.Need-returns-4
 returns-4 c =
     let o = c .before .before .before .before in
     let t = o .before .before in
     let l = t .before .before .before .before in
-    let a = l .before .before .before .before .before .args in
-    let h = l .before .before .if1 .left in
+    let entry = l .before .before .before in
+    let a = entry .before .before .args in
     let x = o .o .given in
     let iv = little 8 (x .0 .0 .lo) ++ little 8 (x .0 .0 .hi) in
     let e = ap tracedOf (x .1) ∙ ap (λ m. origin iv (modeOf m)) (c .before .enum-told2 .given .1) in
-    both (now (a .key)) (now (a .block)) (c .refused4 .ensures) (revives-plain (now (a .key)) (now (a .block)) h (laid l) (traces t) iv e)
-    (resume-plain (now (a .key)) (now (a .block)) h (laid l) (walked t) iv e)
+    both entry (c .refused4 .ensures ∙ resume-plain (now (a .key)) (now (a .block)) (l .before .before .if1 .left) (laid l) (walked t) iv e)
 
 revived-requires : tie.Need-revived-requires
 revived-requires c κs =
@@ -122,16 +116,15 @@ returns-5 c =
     let t = o .before .before in
     let r = t .before .before .before in
     let l = r .before in
-    let a = l .before .before .before .before .before .args in
-    let h = l .before .before .if1 .left in
+    let entry = l .before .before .before in
+    let a = entry .before .before .args in
     let x = o .o .given in
     let iv = little 8 (x .0 .0 .lo) ++ little 8 (x .0 .0 .hi) in
     let e = ap tracedOf (x .1) ∙ ap (λ m. origin iv (modeOf m)) (v .before .enum-told3 .given .1) in
-    both (now (a .key)) (now (a .block))
+    both entry
     (ap₂ (λ (u : List ℕ) (s : Session). record { number = 0; iv = u; session = s }) (v .iv-bytes .ensures)
-    (c .revived .ensures ∙ ap₂ (revived (now (a .key))) (v .iv-bytes .ensures) (r .read .ensures)))
-    (revives-sealed (now (a .key)) (now (a .block)) h (laid l) (traces t) iv e)
-    (resume-sealed (now (a .key)) (now (a .block)) h (laid l) (walked t) iv e)
+    (c .revived .ensures ∙ ap₂ (revived (now (a .key))) (v .iv-bytes .ensures) (r .read .ensures))
+    ∙ resume-sealed (now (a .key)) (now (a .block)) (l .before .before .if1 .left) (laid l) (walked t) iv e)
 
 pub resume-spec : {M : Type 1} → statement M
 resume-spec =

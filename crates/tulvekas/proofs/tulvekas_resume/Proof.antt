@@ -4,7 +4,8 @@ use mathlib.Core.Path.{ap, _∙_}
 use mathlib.Core.List.{List, _++_}
 use lib.ListN.{drop}
 use denote.Ref.{now}
-use Rattle.suspend.specs.Calls.{Resumed, resume-call}
+use Rattle.suspend.specs.Calls.{Resumed}
+use Rattle.suspend.specs.Walk.{resume-call}
 use Rattle.tulvekas.proofs.Answering.{never, unwritten, accepted, leaves-all, leaves-stored}
 use Rattle.tulvekas.proofs.SessionAnswers.{resume-refused, resume-short, resume-short-iv, resume-right}
 use borrow.Author.Needs.{needs}
