@@ -26,7 +26,7 @@ use Rattle.page.proofs.Ciphertext.{stream-block}
 use Rattle.retention.proofs.Cases.{kept-at-548, not-kept-at-549}
 use Rattle.cipher.specs.Step.{T1, T2, sigma, z, step}
 use Rattle.cipher.specs.Run.{move, made, moves, zs}
-use Rattle.start.specs.Start.{Mode, mode-cells, load, keystream}
+use Rattle.start.specs.Start.{Mode, mode-cells, load, sealed-keystream}
 use Rattle.start.proofs.Undo.{mode-row, high}
 use Rattle.cases.specs.Starred.{All, starred}
 
@@ -66,13 +66,13 @@ zero-times : (h : List ℕ) → zeros • h ≡ zeros
 unfolding _•_ big bigs
 zero-times h = ap (bigs 16) (product-zero (big h))
 
-nothing-hashed : (key iv : List ℕ) → page-tag key iv [] [] ≡ xors zeros (keystream key iv 1)
+nothing-hashed : (key iv : List ℕ) → page-tag key iv [] [] ≡ xors zeros (sealed-keystream key iv 1)
 unfolding tag-for encrypted bigs hashFrom blocks-of eats eat xors _⊕_
-nothing-hashed key iv = ap (λ (y : List ℕ). xors y (keystream key iv 1)) (zero-times (keystream key iv 0))
+nothing-hashed key iv = ap (λ (y : List ℕ). xors y (sealed-keystream key iv 1)) (zero-times (sealed-keystream key iv 0))
 
-empty-page : (key iv : List ℕ) → Row 32 256 key → IsBlock iv → page-tag key iv [] [] ≡ keystream key iv 1
+empty-page : (key iv : List ℕ) → Row 32 256 key → IsBlock iv → page-tag key iv [] [] ≡ sealed-keystream key iv 1
 empty-page key iv k v =
-    nothing-hashed key iv ∙ xors-comm zeros (keystream key iv 1) ∙ xors-zeros 16 (keystream key iv 1) (stream-block key iv k v 1 .long)
+    nothing-hashed key iv ∙ xors-comm zeros (sealed-keystream key iv 1) ∙ xors-zeros 16 (sealed-keystream key iv 1) (stream-block key iv k v 1 .long)
 
 -- the list holds, every entry of it
 pub shown : All starred

@@ -15,7 +15,7 @@ use Rattle.aes.specs.Round.{round}
 use Rattle.ghash.specs.Hash.{_•_}
 use Rattle.cipher.specs.Step.{z}
 use Rattle.cipher.specs.Run.{forward, zs}
-use Rattle.start.specs.Start.{Mode, load, keystream, blank}
+use Rattle.start.specs.Start.{Mode, load, sealed-keystream, blank}
 use Rattle.page.specs.Page.{page-tag}
 use Rattle.retention.specs.Keeping.{Verdict.decided, keeping}
 
@@ -54,7 +54,7 @@ starred =
     -- first z of every start is key bytes 16 to 31
     ∷ ((key iv : List ℕ) (m : Mode) → Row 32 256 key → z (load key iv m) ≡ drop 16 key)
     -- no data, no text: tag = end pad
-    ∷ ((key iv : List ℕ) → Row 32 256 key → IsBlock iv → page-tag key iv [] [] ≡ keystream key iv 1)
+    ∷ ((key iv : List ℕ) → Row 32 256 key → IsBlock iv → page-tag key iv [] [] ≡ sealed-keystream key iv 1)
     -- day difference 548 kept, 549 not
     ∷ ((today departure : ℕ) → today ≤ last-day → departure ≤ last-day → today ≡ departure + 548 → keeping today departure ≡ decided true)
     ∷ ((today departure : ℕ) → today ≤ last-day → departure ≤ last-day → today ≡ departure + 549 → keeping today departure ≡ decided false)

@@ -145,11 +145,11 @@ page key iv l ad text d t cs j =
 -- ---- what the session is
 
 pub session-after : (key iv : Bytes) → Keyed key iv → (cs : List Call)
-    → let t = after key iv cs in t .session ≡ session-of (key .list) (iv .list) (t .ad) (t .text) (t .closed)
+    → let t = after key iv cs in t .session ≡ session-of (key .list) (iv .list) (t .ad) (t .text) (t .text-begun)
 session-after key iv l cs =
     let r = after-reached key iv l cs in
     ap (λ (u : Trail). u .session) (r .is) ∙ session-is (key .list) (iv .list) (r .stage)
-    ∙ sym (ap (λ (u : Trail). session-of (key .list) (iv .list) (u .ad) (u .text) (u .closed)) (r .is))
+    ∙ sym (ap (λ (u : Trail). session-of (key .list) (iv .list) (u .ad) (u .text) (u .text-begun)) (r .is))
 
 -- ---- what a text piece writes
 

@@ -18,7 +18,7 @@ use Rattle.suspend.proofs.RoundTrip.{suspend-session}
 use Rattle.page.specs.Page.{encrypted, cipher-of}
 use Rattle.page.proofs.Ciphertext.{encrypted-append, encrypted-length}
 use Rattle.page.proofs.Stages.{Stage, Stage.taking-data, Stage.taking-text, ad-of, text-of, session-at}
-use Rattle.page.proofs.Reached.{closed-of}
+use Rattle.page.proofs.Reached.{text-begun-of}
 use Rattle.page.proofs.WholeCalls.{begin-call-at, data-call-at, data-accepted, text-call-at, text-accepted}
 use Rattle.claims.specs.Lists.{Bytes, Call, Call.give-data, Call.give-text, Call.suspend-alone, Call.suspend-and-resume, Trail, call, calls, at-begin, after}
 use Rattle.claims.specs.Claims.{Keyed}
@@ -36,7 +36,7 @@ or-false false = refl
 module _ (key iv : List ℕ) where
   -- what a list of calls has come to where its accepted pieces lead to a stage
   abbrev pub trail-at : Stage → Trail
-  trail-at g = record { session = session-at key iv g; ad = ad-of g; text = text-of g; cipher = cipher-of key iv (text-of g); closed = closed-of g }
+  trail-at g = record { session = session-at key iv g; ad = ad-of g; text = text-of g; cipher = cipher-of key iv (text-of g); text-begun = text-begun-of g }
 
   pub record Reached (t : Trail) : Type 0 where
     pub stage : Stage
@@ -60,7 +60,7 @@ module _ (key iv : List ℕ) where
       let a : cipher-of key iv (text-of g) ++ c ≡ cipher-of key iv (text-of g ++ p .list) =
       ap (λ (n : ℕ). cipher-of key iv (text-of g) ++ encrypted key iv n (p .list)) (sym (zero-add (length (text-of g))))
       ∙ sym (encrypted-append key iv 0 (text-of g) (p .list)) in
-      rw (text-call-at key iv g (p .list) (out .list) fits room, w, a, or-true (closed-of g))
+      rw (text-call-at key iv g (p .list) (out .list) fits room, w, a, or-true (text-begun-of g))
 
   -- ---- a refused one
 
@@ -70,7 +70,7 @@ module _ (key iv : List ℕ) where
 
   text-refused : (t : Trail) (p out : Bytes) → eqb (text-number (t .session) (p .list) (out .list)) 0 ≡ false → call key t (give-text p out) ≡ t
   unfolding call text-call
-  text-refused t p out e = rw (e, append-nil (t .text), append-nil (t .cipher), or-false (t .closed))
+  text-refused t p out e = rw (e, append-nil (t .text), append-nil (t .cipher), or-false (t .text-begun))
 
   -- ---- any list
 
@@ -119,7 +119,7 @@ module _ (key iv : List ℕ) where
 
 -- a trail with another session
 abbrev with-session : Trail → Session → Trail
-with-session t s = record { session = s; ad = t .ad; text = t .text; cipher = t .cipher; closed = t .closed }
+with-session t s = record { session = s; ad = t .ad; text = t .text; cipher = t .cipher; text-begun = t .text-begun }
 
 pub suspended-same : (key : List ℕ) (t : Trail) (out : Bytes) → call key t (suspend-alone out) ≡ t
 unfolding call

@@ -72,7 +72,7 @@ pub record SealsByPieces : Type 0 where
       g .out ≡ granted (g .number) (encrypted (key .list) (iv .list) (length (t .text)) (p .list) ++ drop (length (p .list)) (out .list)) (out .list)
   -- After every list of calls the session is what key, IV and the accepted pieces make it.
   pub session : (key iv : Bytes) → Keyed key iv → (cs : List Call)
-      → let t = after key iv cs in t .session ≡ session-of (key .list) (iv .list) (t .ad) (t .text) (t .closed)
+      → let t = after key iv cs in t .session ≡ session-of (key .list) (iv .list) (t .ad) (t .text) (t .text-begun)
   -- After every list of calls, suspend is accepted where the output has room for its 512 bytes, and resume right after it gives the very session.
   pub resumed : (key iv : Bytes) → Keyed key iv → (cs : List Call) (out : Bytes) → 512 ≤ length (out .list)
       → (suspended-number key iv cs out ≡ 0) × Resumes key iv cs out

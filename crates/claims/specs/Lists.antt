@@ -41,14 +41,14 @@ pub record Trail : Type 0 where
   pub ad : List ℕ
   pub text : List ℕ
   pub cipher : List ℕ
-  pub closed : Bool
+  pub text-begun : Bool
 
 -- One call more, under the begin's key. A suspend that is refused is followed by no resume; behind an accepted one the session is what resume
 -- gives, whatever that is.
 unfoldable pub call : (key : List ℕ) → Trail → Call → Trail
 call key t (give-data p) =
     let g = data-call (t .session) (p .list) in
-    record { session = g .session; ad = t .ad ++ granted (g .number) (p .list) []; text = t .text; cipher = t .cipher; closed = t .closed }
+    record { session = g .session; ad = t .ad ++ granted (g .number) (p .list) []; text = t .text; cipher = t .cipher; text-begun = t .text-begun }
 call key t (give-text p out) =
     let g = text-call (t .session) (p .list) (out .list) in
     record {
@@ -56,11 +56,11 @@ call key t (give-text p out) =
       ad = t .ad;
       text = t .text ++ granted (g .number) (p .list) [];
       cipher = t .cipher ++ granted (g .number) (take (length (p .list)) (g .out)) [];
-      closed = t .closed || eqb (g .number) 0;
+      text-begun = t .text-begun || eqb (g .number) 0;
     }
 call key t (suspend-alone out) =
     let g = suspend-call (t .session) (out .list) in
-    record { session = g .session; ad = t .ad; text = t .text; cipher = t .cipher; closed = t .closed }
+    record { session = g .session; ad = t .ad; text = t .text; cipher = t .cipher; text-begun = t .text-begun }
 call key t (suspend-and-resume out) =
     let g = suspend-call (t .session) (out .list) in
     record {
@@ -68,7 +68,7 @@ call key t (suspend-and-resume out) =
       ad = t .ad;
       text = t .text;
       cipher = t .cipher;
-      closed = t .closed;
+      text-begun = t .text-begun;
     }
 
 unfoldable pub calls : (key : List ℕ) → Trail → List Call → Trail
@@ -85,7 +85,7 @@ answers key t (suspend-and-resume out ∷ cs) = answers key (call key t (suspend
 
 -- from begin on: where the whole list has come to, and what its pieces are answered
 abbrev pub at-begin : (key iv : Bytes) → Trail
-at-begin key iv = record { session = begin-call (key .list) (iv .list) .session; ad = []; text = []; cipher = []; closed = false }
+at-begin key iv = record { session = begin-call (key .list) (iv .list) .session; ad = []; text = []; cipher = []; text-begun = false }
 
 abbrev pub after : (key iv : Bytes) → List Call → Trail
 after key iv cs = calls (key .list) (at-begin key iv) cs

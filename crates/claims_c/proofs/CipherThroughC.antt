@@ -29,7 +29,7 @@ use Rattle.claims.proofs.Within.{row-of}
 use Rattle.claims.proofs.Demands.{start-keyed}
 use Rattle.tulvekas.specs.Order.{next, room}
 use Rattle.tulvekas.specs.Pages.{seal-answer, seal-writes, seal-writes-tag}
-use Rattle.tulvekas.specs.Cipher.{mode-of, fitting, keystream-answer, keystream-writes, mode-byte, trace-of-bytes, trace-answer, trace-iv, trace-sealed}
+use Rattle.tulvekas.specs.Cipher.{mode-named, fitting, keystream-answer, keystream-writes, mode-byte, trace-of-bytes, trace-answer, trace-iv, trace-sealed}
 use Rattle.tulvekas.proofs.Answering.{fits, accepted, below-refuses, below-accepts, nothing-later, granted-again}
 use Rattle.tulvekas.proofs.CipherAnswers.{trace-bad-key, trace-walks}
 use Rattle.claims_c.specs.ThroughC.{Told, TracesThroughC}
@@ -52,7 +52,7 @@ module _ (key iv : Bytes) (mode : ℕ) (out : List ℕ) where
   run-is = rw (le-ltb (length out) (16 * fitting out) (omega arith))
 
   s : Registers
-  s = start (key .list) (iv .list) (mode-of mode)
+  s = start (key .list) (iv .list) (mode-named mode)
 
   all : List ℕ
   all = blocks forward n s
@@ -81,7 +81,7 @@ module _ (key iv : Bytes) (mode : ℕ) (out : List ℕ) where
       near q =
           let e : later ≡ 0 = rw (le-ltb most-blocks n q) in
           let l = start-keyed key iv z in
-          let g : IsRegisters s = start-good (key .list) (row-of key (l .key-long)) (iv .list) (mode-of mode) (row-of iv (l .iv-long)) in
+          let g : IsRegisters s = start-good (key .list) (row-of key (l .key-long)) (iv .list) (mode-named mode) (row-of iv (l .iv-long)) in
           ap (λ (i : ℕ). granted i (all ++ drop (16 * n) out) out) e
           ∙ ap (λ (i : ℕ). all ++ drop i out) (sym (blocks-length forward n s g))
           ∙ ap written (sym (part-is ∙ ap (λ (i : ℕ). granted i all []) e))
@@ -97,7 +97,7 @@ module _ (key iv : Bytes) (mode : ℕ) (out : List ℕ) where
       go false e =
           ap (λ (i : ℕ). granted i (all ++ drop (16 * n) out) out) (sym (below-refuses number later (eqb-false number 0 e))) ∙ rw e
 
-  pub keystream : let blocks = run-part forward (start (key .list) (iv .list) (mode-of mode)) (length out) (fitting out) in
+  pub keystream : let blocks = run-part forward (start (key .list) (iv .list) (mode-named mode)) (length out) (fitting out) in
       (keystream-answer (key .list) (iv .list) out ≡ next (start-number (key .list) (iv .list)) (run-number (length out) (fitting out)))
       × (keystream-writes (key .list) (iv .list) mode out ≡ granted (start-number (key .list) (iv .list)) (blocks ++ drop (length blocks) out) out)
   unfolding keystream-answer n number later s all drawn written

@@ -27,7 +27,7 @@ use Rattle.tulvekas.specs.Sessions.{whole, data-answer, text-answer, finish-ans
 use Rattle.tulvekas.proofs.Answering.{nothing-later, fits, sound}
 use Rattle.tulvekas.proofs.SessionLaws.{session-row, session-whole}
 use Rattle.tulvekas.proofs.SessionAnswers.{text-again, suspend-again, resume-right}
-use Rattle.claims_c.specs.Lists.{left, Fresh, c-call}
+use Rattle.claims_c.specs.Lists.{left, Buffers, c-call}
 use Rattle.claims_c.specs.ThroughC.{Stands}
 
 -- ---- sizes
@@ -134,11 +134,11 @@ module _ (s : Session) (g : Sized s) where
         suspend-output = λ out. call-written (λ (u : Session). suspend-call u out) out (suspend-again s out);
       }
 
-  pub data-left : (key : List ℕ) (f : Fresh) (p : Bytes) → c-call key bytes f (give-data p) ≡ session-bytes (data-call s (p .list) .session)
+  pub data-left : (key : List ℕ) (f : Buffers) (p : Bytes) → c-call key bytes f (give-data p) ≡ session-bytes (data-call s (p .list) .session)
   unfolding c-call data-answer data-call
   data-left key f p = call-left (λ (u : Session). data-call u (p .list)) (λ e. rw e)
 
-  pub text-left : (key : List ℕ) (f : Fresh) (p out : Bytes) → c-call key bytes f (give-text p out) ≡ session-bytes (text-call s (p .list) (out .list) .session)
+  pub text-left : (key : List ℕ) (f : Buffers) (p out : Bytes) → c-call key bytes f (give-text p out) ≡ session-bytes (text-call s (p .list) (out .list) .session)
   unfolding c-call text-answer text-call
   text-left key f p out = call-left (λ (u : Session). text-call u (p .list) (out .list)) (λ e. rw e)
 
@@ -156,7 +156,7 @@ module _ (s : Session) (g : Sized s) where
     resumed-iv = ap₂ (λ (n : ℕ) (v : List ℕ). buffer-after n 16 v into) answered (ap (λ (r : Resumed). r .iv) back)
 
   -- suspended into this output, and resumed into fresh bytes where that is accepted
-  pub resumed-fresh : (key iv : List ℕ) (f : Fresh) (out : Bytes)
+  pub resumed-fresh : (key iv : List ℕ) (f : Buffers) (out : Bytes)
       → (suspend-call s (out .list) .number ≡ 0
       → resume-call key (take 512 (suspend-call s (out .list) .out)) ≡ record { number = 0; iv = iv; session = s })
       → c-call key bytes f (suspend-and-resume out) ≡ bytes

@@ -32,7 +32,7 @@ use Rattle.tulvekas.specs.SessionBytes.{session-bytes}
 use Rattle.tulvekas.proofs.Sizes.{Sized}
 use Rattle.tulvekas.specs.Sessions.{begin-answer, suspend-writes}
 use Rattle.tulvekas.proofs.SessionAnswers.{begin-right}
-use Rattle.claims_c.specs.Lists.{left, Fresh, CCall, c-call, c-calls, c-after, below}
+use Rattle.claims_c.specs.Lists.{left, Buffers, CCall, c-call, c-calls, c-after, below}
 use Rattle.claims_c.specs.ThroughC.{Stands, ResumesThroughC, TracesThroughC, ThroughC}
 use Rattle.claims_c.proofs.CipherThroughC.{keystream, tells, traces, seals}
 use Rattle.claims_c.proofs.OnBytes.{stored, bytes, stands, data-left, text-left, answered, resumed-left, resumed-iv, resumed-fresh, sized-at}
@@ -45,7 +45,7 @@ module _ (key iv : List ℕ) (k : Row 32 256 key) (v : IsBlock iv) where
       → session-bytes (session-at key iv g) ≡ session-bytes (call key (trail-at key iv g) c .session)
   stays g c e = ap (λ (t : Trail). session-bytes (t .session)) (sym e)
 
-  step-at : (g : Stage) → Within g → (f : Fresh) (c : Call)
+  step-at : (g : Stage) → Within g → (f : Buffers) (c : Call)
       → c-call key (session-bytes (session-at key iv g)) f c ≡ session-bytes (call key (trail-at key iv g) c .session)
   unfolding call bytes c-call
   step-at g w f (give-data p) = data-left (session-at key iv g) (sized-at key iv k v g w) key f p
@@ -55,7 +55,7 @@ module _ (key iv : List ℕ) (k : Row 32 256 key) (v : IsBlock iv) where
       resumed-fresh (session-at key iv g) (sized-at key iv k v g w) key iv f out (resume-at key iv k v g w (out .list))
       ∙ stays g (suspend-and-resume out) (resumed-same key iv k v g out w)
 
-  step : (t : Trail) → Reached key iv t → (f : Fresh) (c : Call) → c-call key (session-bytes (t .session)) f c ≡ session-bytes (call key t c .session)
+  step : (t : Trail) → Reached key iv t → (f : Buffers) (c : Call) → c-call key (session-bytes (t .session)) f c ≡ session-bytes (call key t c .session)
   step t r f c =
       subst (λ (u : Trail). c-call key (session-bytes (u .session)) f c ≡ session-bytes (call key u c .session)) (sym (r .is)) (step-at (r .stage) (r .within) f c)
 
@@ -63,7 +63,7 @@ module _ (key iv : List ℕ) (k : Row 32 256 key) (v : IsBlock iv) where
   unfolding c-calls calls below
   steps t r [] = refl
   steps t r (c ∷ cs) =
-      ap (λ (b : List ℕ). c-calls key b cs) (step t r (c .fresh) (c .call)) ∙ steps (call key t (c .call)) (call-reached key iv k v t (c .call) r) cs
+      ap (λ (b : List ℕ). c-calls key b cs) (step t r (c .buffers) (c .call)) ∙ steps (call key t (c .call)) (call-reached key iv k v t (c .call) r) cs
 
   reached-sized : (t : Trail) → Reached key iv t → Sized (t .session)
   reached-sized t r = subst (λ (u : Trail). Sized (u .session)) (sym (r .is)) (sized-at key iv k v (r .stage) (r .within))

@@ -18,7 +18,7 @@ abbrev pub left : ℕ → Session → (session : List ℕ) → List ℕ
 left n g b = buffer-after n 216 (session-bytes g) b
 
 -- what a resume is lent: 216 bytes for the session and room for the IV, whatever stands in them
-pub record Fresh : Type 0 where
+pub record Buffers : Type 0 where
   pub session : List ℕ
   pub iv : List ℕ
   pub session-long : length session ≡ 216
@@ -27,11 +27,11 @@ pub record Fresh : Type 0 where
 -- a call, and what a resume in it is lent
 pub record CCall : Type 0 where
   pub call : Call
-  pub fresh : Fresh
+  pub buffers : Buffers
 
 -- One call more: the bytes of the session afterwards. Suspend only reads it. Resume, right after an accepted suspend and with the 512 bytes that it
 -- wrote, goes into fresh bytes, which are the session from then on.
-unfoldable pub c-call : (key : List ℕ) → (session : List ℕ) → Fresh → Call → List ℕ
+unfoldable pub c-call : (key : List ℕ) → (session : List ℕ) → Buffers → Call → List ℕ
 c-call key b f (give-data p) = left (data-answer b (p .list)) (data-call (session-in b) (p .list) .session) b
 c-call key b f (give-text p out) = left (text-answer b (p .list) (out .list)) (text-call (session-in b) (p .list) (out .list) .session) b
 c-call key b f (suspend-alone out) = b
@@ -41,7 +41,7 @@ c-call key b f (suspend-and-resume out) =
 
 unfoldable pub c-calls : (key : List ℕ) → (session : List ℕ) → List CCall → List ℕ
 c-calls key b [] = b
-c-calls key b (c ∷ cs) = c-calls key (c-call key b (c .fresh) (c .call)) cs
+c-calls key b (c ∷ cs) = c-calls key (c-call key b (c .buffers) (c .call)) cs
 
 -- the whole list, from begin on
 abbrev pub c-after : (key iv : Bytes) → (session : List ℕ) → List CCall → List ℕ

@@ -20,7 +20,7 @@ use Rattle.tulvekas.specs.Order.{next}
 use Rattle.tulvekas.specs.Pages.{seal-answer, seal-writes, seal-writes-tag}
 use Rattle.tulvekas.specs.SessionBytes.{session-bytes, session-in}
 use Rattle.tulvekas.specs.Sessions.{data-answer, text-answer, text-writes, finish-answer, finish-writes, suspend-answer, suspend-writes, resume-answer, resume-writes}
-use Rattle.tulvekas.specs.Cipher.{mode-of, fitting, keystream-answer, keystream-writes, mode-byte, trace-of-bytes, trace-answer, trace-iv, trace-sealed}
+use Rattle.tulvekas.specs.Cipher.{mode-named, fitting, keystream-answer, keystream-writes, mode-byte, trace-of-bytes, trace-answer, trace-iv, trace-sealed}
 use Rattle.claims_c.specs.Lists.{left, CCall, c-after, below}
 
 -- bytes b on which every call for C answers and writes what the call below does on the session s
@@ -73,7 +73,7 @@ pub record ThroughC : Type 0 where
       × (seal-writes-tag key iv ad text out tag ≡ granted (seal-number key iv ad text out) (seal-tag key iv ad text out ++ drop 16 tag) tag)
   -- Keystream answers and writes what start and a run forward of as many whole blocks as fit do.
   pub keystream : (key iv : Bytes) (mode : ℕ) (out : List ℕ)
-      → let blocks = run-part forward (start (key .list) (iv .list) (mode-of mode)) (length out) (fitting out) in
+      → let blocks = run-part forward (start (key .list) (iv .list) (mode-named mode)) (length out) (fitting out) in
       (keystream-answer (key .list) (iv .list) out ≡ next (start-number (key .list) (iv .list)) (run-number (length out) (fitting out)))
       × (keystream-writes (key .list) (iv .list) mode out ≡ granted (start-number (key .list) (iv .list)) (blocks ++ drop (length blocks) out) out)
   -- Trace tells the answer that `Traces` says of the registers that 112 bytes list: an IV and mode exactly if they lead there.

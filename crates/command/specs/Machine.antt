@@ -34,9 +34,9 @@ Ordered s (Good p) = (p .key < p .iv) × (p .iv < p .ad) × (p .ad < p .text) ×
 Ordered s Unreadable = Unit
 
 -- document 01's number of an outcome, 0 where the seal was accepted
-abbrev pub numberOf : Outcome → ℕ
-numberOf (Done n) = 0
-numberOf (Refused n) = n
+abbrev pub outcome-number : Outcome → ℕ
+outcome-number (Done n) = 0
+outcome-number (Refused n) = n
 
 -- the answer, with the ciphertext at the front of a list
 abbrev pub answerOf : (cipher tag : List ℕ) → Outcome → Answer

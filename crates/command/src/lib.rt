@@ -8,7 +8,7 @@ ghost use Rattle.command.specs.Hex;
 ghost use Rattle.command.specs.Lines.{first-line, well-formed, lines-in};
 ghost use Rattle.command.specs.Output;
 ghost use Rattle.command.specs.Output.{answer-to, printed, output};
-ghost use Rattle.command.specs.Machine.{between, lineOf, linesOf, Ordered, numberOf, answerOf, Within, Prints};
+ghost use Rattle.command.specs.Machine.{between, lineOf, linesOf, Ordered, outcome-number, answerOf, Within, Prints};
 
 // Bytes that the longest line says, and bytes of the longest input and the longest output.
 const MOST_BYTES: usize = 4096;
@@ -201,7 +201,7 @@ pub struct Tagged {
 
 // Document 01's number of an outcome.
 fn number(o: Outcome) -> u64
-    ensures { λ r. ⌜ r ≡ numberOf o ⌝ }
+    ensures { λ r. ⌜ r ≡ outcome-number o ⌝ }
 {
     match o {
         Outcome::Done(_) => scope::ACCEPTED,

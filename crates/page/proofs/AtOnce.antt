@@ -11,7 +11,7 @@ use Rattle.session.specs.Machine.{sessionOf}
 use Rattle.session.specs.Inner.{Multiples}
 use Rattle.session.specs.Calls.{Given, begin-call}
 use Rattle.session.specs.Pieces.{data-taken, closed, text-taken, text-out}
-use Rattle.start.specs.Start.{keystream}
+use Rattle.start.specs.Start.{sealed-keystream}
 use Rattle.page.specs.Page.{cipher-of}
 use Rattle.page.proofs.Stages.{Stage, Stage.taking-data, Stage.taking-text, session-at, data-at, closed-at, text-taken-at, text-out-at}
 use Rattle.page.proofs.WholeCalls.{begin-call-at}
@@ -22,7 +22,7 @@ module _ (key iv : List ℕ) where
 
   -- ---- the table of H
 
-  h-at : (g : Stage) → session-at key iv g .h ≡ keystream key iv 0
+  h-at : (g : Stage) → session-at key iv g .h ≡ sealed-keystream key iv 0
   unfolding session-at
   h-at g = refl
 

@@ -15,13 +15,13 @@ use Rattle.cipher.specs.Registers.{IsRegisters}
 use Rattle.cipher.specs.Run.{forward, moves}
 use Rattle.cipher.proofs.Inverse.{z-block}
 use Rattle.cipher.proofs.Moves.{moves-good}
-use Rattle.start.specs.Start.{Mode.sealed, start, keystream}
+use Rattle.start.specs.Start.{Mode.sealed, start, sealed-keystream}
 use Rattle.start.proofs.Undo.{start-good}
 use Rattle.page.specs.Page.{encrypted, cipher-of}
 
 -- the keystream's byte for byte i of the text
 abbrev pub stream-byte : (key iv : List ℕ) → ℕ → ℕ
-stream-byte key iv i = getD (keystream key iv (2 + i / 16)) (i % 16) 0
+stream-byte key iv i = getD (sealed-keystream key iv (2 + i / 16)) (i % 16) 0
 
 module _ (key iv : List ℕ) where
   pub encrypted-append : (i : ℕ) (s t : List ℕ) → encrypted key iv i (s ++ t) ≡ encrypted key iv i s ++ encrypted key iv (i + length s) t
@@ -58,7 +58,7 @@ module _ (key iv : List ℕ) (k : Row 32 256 key) (v : IsBlock iv) where
   pub drawn-good : (n : ℕ) → IsRegisters (moves forward n (start key iv sealed))
   drawn-good n = moves-good forward n (start key iv sealed) (start-good key k iv sealed v)
 
-  pub stream-block : (n : ℕ) → IsBlock (keystream key iv n)
+  pub stream-block : (n : ℕ) → IsBlock (sealed-keystream key iv n)
   stream-block n = z-block (moves forward n (start key iv sealed)) (drawn-good n)
 
   pub encrypted-below : (i : ℕ) (t : List ℕ) → Below 256 t → Below 256 (encrypted key iv i t)

@@ -15,7 +15,7 @@ use Rattle.ghash.specs.Hash.{rest}
 use Rattle.digest.proofs.Settling.{rest-long, absorb-pending}
 use Rattle.digest.proofs.Preserved.{absorb-hash-block, absorb-pending-block, settled-block}
 use Rattle.session.specs.Session.{drawn-at}
-use Rattle.start.specs.Start.{keystream}
+use Rattle.start.specs.Start.{sealed-keystream}
 use Rattle.page.specs.Page.{cipher-of}
 use Rattle.page.proofs.Phases.{ad-sum}
 use Rattle.page.proofs.Ciphertext.{cipher-length, cipher-below, drawn-good}
@@ -44,16 +44,16 @@ behind h y s i k =
 module _ (key iv : List ℕ) where
   pub zeros-behind : (g : Stage) (i : ℕ) → phase-length g % 16 ≤ i → getD (session-at key iv g .sum .pending) i 0 ≡ 0
   unfolding session-at sum-at phase-length
-  zeros-behind (taking-data d) i k = behind (keystream key iv 0) zeros d i k
+  zeros-behind (taking-data d) i k = behind (sealed-keystream key iv 0) zeros d i k
   zeros-behind (taking-text d t) i k =
       let n = cipher-length key iv t in
-      behind (keystream key iv 0) _ (cipher-of key iv t) i (rw n k)
+      behind (sealed-keystream key iv 0) _ (cipher-of key iv t) i (rw n k)
 
   pub hash-block : (g : Stage) → IsBlock (session-at key iv g .sum .hash)
   unfolding session-at sum-at
-  hash-block (taking-data d) = absorb-hash-block (keystream key iv 0) (fresh zeros) 0 d zeros-block
+  hash-block (taking-data d) = absorb-hash-block (sealed-keystream key iv 0) (fresh zeros) 0 d zeros-block
   hash-block (taking-text d t) =
-      let h : List ℕ = keystream key iv 0 in
+      let h : List ℕ = sealed-keystream key iv 0 in
       absorb-hash-block h _ 0 (cipher-of key iv t) (settled-block h (ad-sum h d) (length d) (absorb-hash-block h (fresh zeros) 0 d zeros-block))
 
   module _ (k : Row 32 256 key) (v : IsBlock iv) where
@@ -63,6 +63,6 @@ module _ (key iv : List ℕ) where
 
     pub pending-block : (g : Stage) → Below 256 (ad-of g) → Below 256 (text-of g) → IsBlock (session-at key iv g .sum .pending)
     unfolding session-at sum-at
-    pending-block (taking-data d) p q = absorb-pending-block (keystream key iv 0) (fresh zeros) 0 d p zeros-block
+    pending-block (taking-data d) p q = absorb-pending-block (sealed-keystream key iv 0) (fresh zeros) 0 d p zeros-block
     pending-block (taking-text d t) p q =
-        absorb-pending-block (keystream key iv 0) _ 0 (cipher-of key iv t) (cipher-below key iv k v t q) zeros-block
+        absorb-pending-block (sealed-keystream key iv 0) _ 0 (cipher-of key iv t) (cipher-below key iv k v t q) zeros-block

@@ -7,7 +7,7 @@ use lib.ListN.{length, replicate}
 use Rattle.words.specs.Bytes.{zeros}
 use Rattle.ghash.specs.Hash.{hashFrom, whole-blocks, rest}
 use Rattle.ghash.proofs.Hashing.{hash-append}
-use Rattle.start.specs.Start.{keystream}
+use Rattle.start.specs.Start.{sealed-keystream}
 use Rattle.digest.specs.Sum.{Sum, fresh}
 use Rattle.digest.specs.Digest.{absorb}
 use Rattle.digest.proofs.Pieces.{sum}
@@ -18,9 +18,9 @@ use Rattle.page.specs.Reached.{sum-of, session-of}
 use Rattle.page.proofs.Stages.{Stage, Stage.taking-data, Stage.taking-text, ad-of, text-of, phase-at, sum-at, session-at}
 
 -- whether a text piece has closed the data
-abbrev pub closed-of : Stage → Bool
-closed-of (taking-data d) = false
-closed-of (taking-text d t) = true
+abbrev pub text-begun-of : Stage → Bool
+text-begun-of (taking-data d) = false
+text-begun-of (taking-text d t) = true
 
 abbrev held : List ℕ → List ℕ
 held s = rest s ++ replicate (16 - length s % 16) 0
@@ -29,11 +29,11 @@ arrives : (h y s : List ℕ) → absorb h (fresh y) 0 s ≡ sum (hashFrom h y (w
 arrives h y s = absorb-fresh h y 0 s refl ∙ ap (λ (x : List ℕ). sum x (held s)) (sym (hash-front h y s))
 
 module _ (key iv : List ℕ) where
-  sum-is : (g : Stage) → sum-at key iv g ≡ sum-of key iv (ad-of g) (text-of g) (closed-of g)
+  sum-is : (g : Stage) → sum-at key iv g ≡ sum-of key iv (ad-of g) (text-of g) (text-begun-of g)
   unfolding sum-at
-  sum-is (taking-data d) = arrives (keystream key iv 0) zeros d
+  sum-is (taking-data d) = arrives (sealed-keystream key iv 0) zeros d
   sum-is (taking-text d t) =
-      let h : List ℕ = keystream key iv 0 in
+      let h : List ℕ = sealed-keystream key iv 0 in
       let c : List ℕ = cipher-of key iv t in
       ap (λ (y : List ℕ). absorb h (fresh y) 0 c) (settled-padded h zeros d)
       ∙ arrives h (hashFrom h zeros (padded d)) c
@@ -53,7 +53,7 @@ module _ (key iv : List ℕ) where
         sum = y;
       }
 
-  pub session-is : (g : Stage) → session-at key iv g ≡ session-of key iv (ad-of g) (text-of g) (closed-of g)
+  pub session-is : (g : Stage) → session-at key iv g ≡ session-of key iv (ad-of g) (text-of g) (text-begun-of g)
   unfolding session-at session-of phase-at
   session-is (taking-data d) = ap (λ (y : Sum). with-sum (taking-data d) y) (sum-is (taking-data d))
   session-is (taking-text d t) = ap (λ (y : Sum). with-sum (taking-text d t) y) (sum-is (taking-text d t))

@@ -15,7 +15,7 @@ use Rattle.words.specs.Bytes.{zeros}
 use Rattle.cipher.specs.Registers.{Registers}
 use Rattle.cipher.specs.Step.{step}
 use Rattle.cipher.specs.Run.{forward, move, moves}
-use Rattle.start.specs.Start.{Mode.sealed, start, keystream}
+use Rattle.start.specs.Start.{Mode.sealed, start, sealed-keystream}
 use Rattle.digest.specs.Sum.{Sum, fresh}
 use Rattle.digest.specs.Digest.{push, absorb, settled}
 use Rattle.digest.proofs.Pieces.{absorb-append, absorb-one}
@@ -45,8 +45,8 @@ phase-at (taking-text d t) = 1
 
 module _ (key iv : List ℕ) where
   unfoldable pub sum-at : Stage → Sum
-  sum-at (taking-data d) = ad-sum (keystream key iv 0) d
-  sum-at (taking-text d t) = text-sum (keystream key iv 0) d (cipher-of key iv t)
+  sum-at (taking-data d) = ad-sum (sealed-keystream key iv 0) d
+  sum-at (taking-text d t) = text-sum (sealed-keystream key iv 0) d (cipher-of key iv t)
 
   -- the session: as many blocks are drawn as the text needs, and the current one is the block drawn last
   unfoldable pub session-at : Stage → Session
@@ -56,9 +56,9 @@ module _ (key iv : List ℕ) where
         ad = length (ad-of g);
         text = length (text-of g);
         registers = moves forward (drawn-at (length (text-of g))) (start key iv sealed);
-        h = keystream key iv 0;
-        pad = keystream key iv 1;
-        current = keystream key iv (1 + ceil16 (length (text-of g)));
+        h = sealed-keystream key iv 0;
+        pad = sealed-keystream key iv 1;
+        current = sealed-keystream key iv (1 + ceil16 (length (text-of g)));
         sum = sum-at g;
       }
 
@@ -76,11 +76,11 @@ module _ (key iv : List ℕ) where
         ad = sym (length-append d p) i;
         text = 0;
         registers = moves forward (drawn-at 0) (start key iv sealed);
-        h = keystream key iv 0;
-        pad = keystream key iv 1;
-        current = keystream key iv (1 + ceil16 0);
-        sum = (ap (λ (n : ℕ). absorb (keystream key iv 0) (ad-sum (keystream key iv 0) d) n p) (sym (zero-add (length d)))
-            ∙ absorb-append (keystream key iv 0) (fresh zeros) 0 d p) i;
+        h = sealed-keystream key iv 0;
+        pad = sealed-keystream key iv 1;
+        current = sealed-keystream key iv (1 + ceil16 0);
+        sum = (ap (λ (n : ℕ). absorb (sealed-keystream key iv 0) (ad-sum (sealed-keystream key iv 0) d) n p) (sym (zero-add (length d)))
+            ∙ absorb-append (sealed-keystream key iv 0) (fresh zeros) 0 d p) i;
       }
 
   -- ---- text
@@ -92,20 +92,20 @@ module _ (key iv : List ℕ) where
 
   module _ (d t : List ℕ) where
     -- the block in use is the keystream's block for this byte
-    pub current-at : byte-current (session-at (taking-text d t)) ≡ keystream key iv (2 + length t / 16)
+    pub current-at : byte-current (session-at (taking-text d t)) ≡ sealed-keystream key iv (2 + length t / 16)
     unfolding byte-current session-at
     current-at = go (eqb (length t % 16) 0) refl
       where
         go : (c : Bool) → eqb (length t % 16) 0 ≡ c
-            → pick (eqb (length t % 16) 0) (keystream key iv (drawn-at (length t))) (keystream key iv (1 + ceil16 (length t))) ≡ keystream key iv (2 + length t / 16)
+            → pick (eqb (length t % 16) 0) (sealed-keystream key iv (drawn-at (length t))) (sealed-keystream key iv (1 + ceil16 (length t))) ≡ sealed-keystream key iv (2 + length t / 16)
         go true e =
             let m : length t % 16 ≡ 0 = eqb-true (length t % 16) 0 e in
             let n : drawn-at (length t) ≡ 2 + length t / 16 = omega arith in
-            rw e (ap (keystream key iv) n)
+            rw e (ap (sealed-keystream key iv) n)
         go false e =
             let m : length t % 16 ≡ 0 → ⊥ = eqb-false (length t % 16) 0 e in
             let n : 1 + ceil16 (length t) ≡ 2 + length t / 16 = omega arith in
-            rw e (ap (keystream key iv) n)
+            rw e (ap (sealed-keystream key iv) n)
 
     pub byte-at : (b : ℕ) → byte-out (session-at (taking-text d t)) b ≡ b ⊕ stream-byte key iv (length t)
     unfolding byte-out session-at
@@ -141,11 +141,11 @@ module _ (key iv : List ℕ) where
           (ap (λ (n : ℕ). encrypted key iv n (b ∷ [])) (zero-add (length t)) ∙ encrypted-one key iv (length t) b
           ∙ ap (λ (x : ℕ). x ∷ []) (sym (byte-at b)))
 
-      sum-next : push (keystream key iv 0) (sum-at (taking-text d t)) (length t) (byte-out (session-at (taking-text d t)) b)
+      sum-next : push (sealed-keystream key iv 0) (sum-at (taking-text d t)) (length t) (byte-out (session-at (taking-text d t)) b)
           ≡ sum-at (taking-text d (t ++ (b ∷ [])))
       unfolding sum-at
       sum-next =
-          let h : List ℕ = keystream key iv 0 in
+          let h : List ℕ = sealed-keystream key iv 0 in
           let from : Sum = fresh (settled h (ad-sum h d) (length d)) in
           let c : List ℕ = cipher-of key iv t in
           let o : ℕ = byte-out (session-at (taking-text d t)) b in
@@ -165,9 +165,9 @@ module _ (key iv : List ℕ) where
             ad = length d;
             text = one i;
             registers = (registers-next ∙ ap (λ (n : ℕ). moves forward (drawn-at n) (start key iv sealed)) one) i;
-            h = keystream key iv 0;
-            pad = keystream key iv 1;
-            current = (current-at ∙ ap (keystream key iv) c ∙ ap (λ (n : ℕ). keystream key iv (1 + ceil16 n)) one) i;
+            h = sealed-keystream key iv 0;
+            pad = sealed-keystream key iv 1;
+            current = (current-at ∙ ap (sealed-keystream key iv) c ∙ ap (λ (n : ℕ). sealed-keystream key iv (1 + ceil16 n)) one) i;
             sum = sum-next i;
           }
 

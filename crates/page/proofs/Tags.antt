@@ -13,7 +13,7 @@ use Rattle.ghash.proofs.Hashing.{hashFrom-block}
 use Rattle.digest.specs.Digest.{settled}
 use Rattle.session.specs.Session.{Session}
 use Rattle.session.specs.Pieces.{closed, tag-of}
-use Rattle.start.specs.Start.{keystream}
+use Rattle.start.specs.Start.{sealed-keystream}
 use Rattle.page.specs.Page.{cipher-of, padded, tag-for, page-tag}
 use Rattle.page.proofs.Phases.{text-sum, phases}
 use Rattle.page.proofs.Ciphertext.{cipher-length, stream-block}
@@ -27,26 +27,26 @@ module _ (key iv : List ℕ) where
   pub tag-for-is : (d c : List ℕ)
       → tag-for key iv d c
       ≡ xors
-      (eat (keystream key iv 0)
-      (settled (keystream key iv 0) (text-sum (keystream key iv 0) d c) (length c))
+      (eat (sealed-keystream key iv 0)
+      (settled (sealed-keystream key iv 0) (text-sum (sealed-keystream key iv 0) d c) (length c))
       (lengths (length d) (length c)))
-      (keystream key iv 1)
+      (sealed-keystream key iv 1)
   unfolding tag-for
   tag-for-is d c =
-      ap (λ (y : List ℕ). xors y (keystream key iv 1))
-      (phases (keystream key iv 0) d c (lengths (length d) (length c)) (lengths-block (length d) (length c)))
+      ap (λ (y : List ℕ). xors y (sealed-keystream key iv 1))
+      (phases (sealed-keystream key iv 0) d c (lengths (length d) (length c)) (lengths-block (length d) (length c)))
 
-  closed-sum : (g : Stage) → closed (session-at key iv g) .sum ≡ text-sum (keystream key iv 0) (ad-of g) (cipher-of key iv (text-of g))
+  closed-sum : (g : Stage) → closed (session-at key iv g) .sum ≡ text-sum (sealed-keystream key iv 0) (ad-of g) (cipher-of key iv (text-of g))
   unfolding session-at sum-at
   closed-sum g = ap (λ (s : Session). s .sum) (closed-at key iv g)
 
   pub tag-at : (g : Stage) → tag-of (session-at key iv g) ≡ page-tag key iv (ad-of g) (text-of g)
   unfolding tag-of session-at
   tag-at g =
-      let h : List ℕ = keystream key iv 0 in
+      let h : List ℕ = sealed-keystream key iv 0 in
       let c : List ℕ = cipher-of key iv (text-of g) in
       let n : length (text-of g) ≡ length c = sym (cipher-length key iv (text-of g)) in
-      ap₂ (λ (y : List ℕ) (m : ℕ). xors (eat h y (lengths (length (ad-of g)) m)) (keystream key iv 1))
+      ap₂ (λ (y : List ℕ) (m : ℕ). xors (eat h y (lengths (length (ad-of g)) m)) (sealed-keystream key iv 1))
       (ap₂ (settled h) (closed-sum g) n) n
       ∙ sym (tag-for-is (ad-of g) c)
 
@@ -55,5 +55,5 @@ pub tag-block : (key iv d c : List ℕ) → Row 32 256 key → IsBlock iv → Is
 unfolding tag-for
 tag-block key iv d c k v =
     xors-row 8 16
-    (hashFrom-block (keystream key iv 0) zeros (padded d ++ padded c ++ lengths (length d) (length c)) zeros-block)
+    (hashFrom-block (sealed-keystream key iv 0) zeros (padded d ++ padded c ++ lengths (length d) (length c)) zeros-block)
     (stream-block key iv k v 1)

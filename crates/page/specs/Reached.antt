@@ -7,7 +7,7 @@ use mathlib.Core.List.{List, [], _++_}
 use lib.ListN.{length, replicate}
 use Rattle.ghash.specs.Hash.{ghash, whole-blocks, rest}
 use Rattle.cipher.specs.Run.{forward, moves}
-use Rattle.start.specs.Start.{Mode.sealed, start, keystream}
+use Rattle.start.specs.Start.{Mode.sealed, start, sealed-keystream}
 use Rattle.digest.specs.Sum.{Sum}
 use Rattle.session.specs.Session.{Session, ceil16, drawn-at}
 use Rattle.page.specs.Page.{cipher-of, padded}
@@ -17,24 +17,24 @@ abbrev pub arrived : (h hashed s : List ℕ) → Sum
 arrived h hashed s = record { hash = ghash h (hashed ++ whole-blocks s); pending = rest s ++ replicate (16 - length s % 16) 0 }
 
 -- while no text piece is accepted the data arrive; the first one, even an empty one, closes them, and the ciphertext arrives behind the padded data
-abbrev pub sum-of : (key iv ad text : List ℕ) → (closed : Bool) → Sum
-sum-of key iv d t false = arrived (keystream key iv 0) [] d
-sum-of key iv d t true = arrived (keystream key iv 0) (padded d) (cipher-of key iv t)
+abbrev pub sum-of : (key iv ad text : List ℕ) → (text-begun : Bool) → Sum
+sum-of key iv d t false = arrived (sealed-keystream key iv 0) [] d
+sum-of key iv d t true = arrived (sealed-keystream key iv 0) (padded d) (cipher-of key iv t)
 
-abbrev pub phase-of : (closed : Bool) → ℕ
+abbrev pub phase-of : (text-begun : Bool) → ℕ
 phase-of false = 0
 phase-of true = 1
 
 -- the session
-unfoldable pub session-of : (key iv ad text : List ℕ) → (closed : Bool) → Session
-session-of key iv d t closed =
+unfoldable pub session-of : (key iv ad text : List ℕ) → (text-begun : Bool) → Session
+session-of key iv d t begun =
     record {
-      phase = phase-of closed;
+      phase = phase-of begun;
       ad = length d;
       text = length t;
       registers = moves forward (drawn-at (length t)) (start key iv sealed);
-      h = keystream key iv 0;
-      pad = keystream key iv 1;
-      current = keystream key iv (1 + ceil16 (length t));
-      sum = sum-of key iv d t closed;
+      h = sealed-keystream key iv 0;
+      pad = sealed-keystream key iv 1;
+      current = sealed-keystream key iv (1 + ceil16 (length t));
+      sum = sum-of key iv d t begun;
     }

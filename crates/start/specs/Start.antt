@@ -59,8 +59,8 @@ unfoldable pub start : (key iv : List ℕ) → Mode → Registers
 start key iv m = into-r1 (drop 16 key) (initial (into-r1 (take 16 key) (initials 15 (load key iv m))))
 
 -- block i of the keystream in sealed mode: what step i + 1 behind the start gives
-abbrev pub keystream : (key iv : List ℕ) → ℕ → List ℕ
-keystream key iv i = z (moves forward i (start key iv sealed))
+abbrev pub sealed-keystream : (key iv : List ℕ) → ℕ → List ℕ
+sealed-keystream key iv i = z (moves forward i (start key iv sealed))
 
 -- 1, 2
 unfoldable pub start-number : (key iv : List ℕ) → ℕ

@@ -12,7 +12,7 @@ use Rattle.words.proofs.Rows.{Below}
 use Rattle.cipher.specs.Registers.{Registers}
 use Rattle.cipher.specs.Run.{forward, backward, made, moves}
 use Rattle.cipher.proofs.Moves.{moves-good, made-again}
-use Rattle.start.specs.Start.{Mode.plain, Mode.sealed, start, keystream}
+use Rattle.start.specs.Start.{Mode.plain, Mode.sealed, start, sealed-keystream}
 use Rattle.start.specs.Leads.{LeadsTo, Traced, Traced.origin, Traced.refused, Traceable, Traces}
 use Rattle.start.specs.Trace.{trace}
 use Rattle.start.proofs.Undo.{start-good}
@@ -27,7 +27,7 @@ use Rattle.suspend.specs.Walk.{by-origin, resume-call}
 
 -- the step before stands the block drawn last
 pub last-drawn : (key iv : List ℕ) → Row 32 256 key → (t : ℕ) {s : Registers} → LeadsTo key (drawn-at t) iv sealed s
-    → made backward s ≡ keystream key iv (1 + ceil16 t)
+    → made backward s ≡ sealed-keystream key iv (1 + ceil16 t)
 unfolding moves made
 last-drawn key iv k t l =
     let n : ℕ = 1 + ceil16 t in

@@ -9,7 +9,7 @@ use lib.Dec.{ltb}
 use lib.ListN.{length, drop}
 use Rattle.scope.specs.Refusals.{refuse, granted, key-length, short-output, no-origin, out-of-phase, bad-block}
 use Rattle.words.specs.Bytes.{zeros}
-use Rattle.start.specs.Start.{Mode.sealed, keystream}
+use Rattle.start.specs.Start.{Mode.sealed, sealed-keystream}
 use Rattle.start.specs.Leads.{LeadsTo}
 use Rattle.session.specs.Session.{Session, ceil16, drawn-at}
 use Rattle.session.specs.Calls.{Given, no-session}
@@ -54,9 +54,9 @@ revived key iv k =
       ad = k .ad;
       text = k .text;
       registers = k .registers;
-      h = keystream key iv 0;
-      pad = keystream key iv 1;
-      current = keystream key iv (1 + ceil16 (k .text));
+      h = sealed-keystream key iv 0;
+      pad = sealed-keystream key iv 1;
+      current = sealed-keystream key iv (1 + ceil16 (k .text));
       sum = k .sum;
     }
 

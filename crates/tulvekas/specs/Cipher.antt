@@ -17,8 +17,8 @@ use Rattle.tulvekas.specs.Order.{next, room, buffer-after}
 -- ---- keystream: 1, 2, 9
 
 -- a mode as C names it: 0 plain, any other number sealed
-abbrev pub mode-of : ℕ → Mode
-mode-of n = pick (eqb n 0) plain sealed
+abbrev pub mode-named : ℕ → Mode
+mode-named n = pick (eqb n 0) plain sealed
 
 -- whole blocks that fit
 abbrev pub fitting : (out : List ℕ) → ℕ
@@ -30,7 +30,7 @@ keystream-answer key iv out = next (start-number key iv) (refuse (ltb most-block
 -- the blocks from block 0 on
 abbrev pub keystream-writes : (key iv : List ℕ) (flag : ℕ) (out : List ℕ) → List ℕ
 keystream-writes key iv flag out =
-    buffer-after (keystream-answer key iv out) (16 * fitting out) (blocks forward (fitting out) (start key iv (mode-of flag))) out
+    buffer-after (keystream-answer key iv out) (16 * fitting out) (blocks forward (fitting out) (start key iv (mode-named flag))) out
 
 -- ---- trace: 1, 8 for a state that is not 112 bytes, 9, 6, 4 for either buffer
 

@@ -19,7 +19,7 @@ ghost use Rattle.tulvekas.specs.Order.{next, room, buffer-after};
 ghost use Rattle.tulvekas.specs.SessionBytes.{session-in, Leaves};
 ghost use Rattle.tulvekas.specs.Pages.{seal-answer, seal-writes, seal-writes-tag};
 ghost use Rattle.tulvekas.specs.Sessions.{begin-answer, begin-leaves, data-answer, data-leaves, text-answer, text-leaves, text-writes, finish-answer, finish-leaves, finish-writes, suspend-answer, suspend-writes, resume-answer, resume-leaves, resume-writes};
-ghost use Rattle.tulvekas.specs.Cipher.{mode-of, keystream-answer, keystream-writes, trace-of-bytes, mode-byte, trace-answer, trace-iv, trace-sealed};
+ghost use Rattle.tulvekas.specs.Cipher.{mode-named, keystream-answer, keystream-writes, trace-of-bytes, mode-byte, trace-answer, trace-iv, trace-sealed};
 ghost use Rattle.tulvekas.specs.Keeping.{kept-answer, kept-byte};
 use digest::Held;
 use ghash::Element;
@@ -317,7 +317,7 @@ pub extern "C" fn tulvekas_resume(
 // ---- the cipher
 
 fn mode_named(sealed: u64) -> Mode
-    ensures { λ r. ⌜ modeOf r ≡ mode-of sealed ⌝ }
+    ensures { λ r. ⌜ modeOf r ≡ mode-named sealed ⌝ }
 {
     if sealed == 0 {
         return Mode::Plain;

@@ -11,7 +11,7 @@ use Rattle.command.specs.declared.Outcome.{Outcome}
 use Rattle.command.specs.declared.Outcome.the-variants.{Refused}
 use Rattle.command.specs.Lines.{lines-in}
 use Rattle.command.specs.Output.{Answer.refused, answer-to}
-use Rattle.command.specs.Machine.{linesOf, Ordered, numberOf, answerOf, Within}
+use Rattle.command.specs.Machine.{linesOf, Ordered, outcome-number, answerOf, Within}
 use Rattle.command.proofs.Printing.{answered}
 use Rattle.command.proofs.answer.Statement.{statement}
 use Rattle.command.proofs.answer.Tie as tie
@@ -30,8 +30,8 @@ seal-lines-requires c κs =
     let e = c .before .before .places .given .1 in
     subst (λ (l : Lines). (linesOf s l ≡ lines-in s) × Ordered s l) e (f .four .ensures)
 
-refused-by : (c t : List ℕ) (o : Outcome) (n m : ℕ) → o ≡ Refused n → m ≡ numberOf o → answerOf c t o ≡ refused m
-refused-by c t o n m e k = ap (answerOf c t) e ∙ ap refused (sym (k ∙ ap numberOf e))
+refused-by : (c t : List ℕ) (o : Outcome) (n m : ℕ) → o ≡ Refused n → m ≡ outcome-number o → answerOf c t o ≡ refused m
+refused-by c t o n m e k = ap (answerOf c t) e ∙ ap refused (sym (k ∙ ap outcome-number e))
 
 -- the seal's answer is the program's
 answer-is : (c : tie.After-seal-lines) → let s = now (c .before .before .before .before .before .before .before .args .input) in answer-to (lines-in s) ≡ answerOf (c .seal-lines .last .1 .1 .0) (c .seal-lines .result .tag) (c .seal-lines .result .outcome)

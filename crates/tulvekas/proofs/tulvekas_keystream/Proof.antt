@@ -9,7 +9,7 @@ use Rattle.cipher.specs.Run.{forward, blocks}
 use Rattle.cipher.specs.Machine.{registersOf}
 use Rattle.cipher.proofs.Typed.{every-state}
 use Rattle.start.specs.Start.{start}
-use Rattle.tulvekas.specs.Cipher.{mode-of, fitting}
+use Rattle.tulvekas.specs.Cipher.{mode-named, fitting}
 use Rattle.tulvekas.proofs.Answering.{never, unwritten, accepted}
 use Rattle.tulvekas.proofs.CipherAnswers.{keystream-refused, keystream-far, keystream-right, run-fills}
 use borrow.Author.Needs.{needs}
@@ -25,7 +25,7 @@ returns c =
     let a = l .before .before .before .before .args in
     let out = now (a .out) in
     let e = keystream-refused (now (a .key)) (now (a .iv)) out (l .lengths .ensures) (c .if1 .taken) in
-    (e, unwritten e (16 * fitting out) (blocks forward (fitting out) (start (now (a .key)) (now (a .iv)) (mode-of (a .sealed)))) out (c .if1 .taken))
+    (e, unwritten e (16 * fitting out) (blocks forward (fitting out) (start (now (a .key)) (now (a .iv)) (mode-named (a .sealed)))) out (c .if1 .taken))
 
 returns-2 : tie.Need-returns-2
 returns-2 c =
@@ -33,7 +33,7 @@ returns-2 c =
     let a = l .before .before .before .before .args in
     let out = now (a .out) in
     let e = keystream-far (now (a .key)) (now (a .iv)) out (l .lengths .ensures) (c .before .if1 .left) (c .if2 .taken) in
-    (e, unwritten e (16 * fitting out) (blocks forward (fitting out) (start (now (a .key)) (now (a .iv)) (mode-of (a .sealed)))) out (never 8))
+    (e, unwritten e (16 * fitting out) (blocks forward (fitting out) (start (now (a .key)) (now (a .iv)) (mode-named (a .sealed)))) out (never 8))
 
 returns-3 : tie.Need-returns-3
 returns-3 c =
@@ -48,12 +48,12 @@ returns-3 c =
     let out = now (a .out) in
     let z = x .before .if1 .left in
     let e = keystream-right key iv out (l .lengths .ensures) z (x .if2 .left) in
-    let s : registersOf (st .start .result .state) ≡ start key iv (mode-of (a .sealed)) =
+    let s : registersOf (st .start .result .state) ≡ start key iv (mode-named (a .sealed)) =
     st .start .ensures .state ∙ sym (accepted (sym z ∙ l .lengths .ensures) _ _) ∙ ap (start key iv) (m .mode-named .ensures) in (
       e,
       run-fills (registersOf (st .start .result .state)) (good st) out (x .if2 .left) _ _ (r .run-core .ensures .1 .0) (r .run-core .ensures .1 .1 .1)
           ∙ ap (λ (t : Registers). blocks forward (fitting out) t ++ drop (16 * fitting out) out) s
-          ∙ accepted e (blocks forward (fitting out) (start key iv (mode-of (a .sealed))) ++ drop (16 * fitting out) out) out,
+          ∙ accepted e (blocks forward (fitting out) (start key iv (mode-named (a .sealed))) ++ drop (16 * fitting out) out) out,
     )
 
 pub tulvekas-keystream-spec : {M : Type 1} → statement M
