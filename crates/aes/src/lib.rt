@@ -39,17 +39,11 @@ pub fn inverse_sbox() -> [u8; 256]
     r
 }
 
-fn wide(x: u8) -> u32
-    ensures { λ r. ⌜ (r ≡ x) × (r < 256) ⌝ }
-{
-    x as u32
-}
-
 // What a table holds at the low byte of a word.
 fn entry(t: &[u8; 256], x: u32) -> u32
     ensures { λ r. ⌜ (r ≡ getD (now (t .entry)) (x % 256) 0) × (r < 256) ⌝ }
 {
-    wide(t[(x % 256) as usize])
+    words::wide(t[(x % 256) as usize])
 }
 
 // A column through a table: its byte r is the entry at byte r of the r-th word.

@@ -45,28 +45,30 @@ fn pair(lo: u16, hi: u16) -> u32
     lo as u32 + hi as u32 * 0x10000
 }
 
+// Eight cells as a block.
+fn eight(c0: u16, c1: u16, c2: u16, c3: u16, c4: u16, c5: u16, c6: u16, c7: u16) -> Block
+    ensures { λ r. ⌜ bytesOf r ≡ littles 2 (c0 ∷ c1 ∷ c2 ∷ c3 ∷ c4 ∷ c5 ∷ c6 ∷ c7 ∷ []) ⌝ }
+{
+    Block {
+        w0: pair(c0, c1),
+        w1: pair(c2, c3),
+        w2: pair(c4, c5),
+        w3: pair(c6, c7),
+    }
+}
+
 // Cells 0 to 7 of a register as a block.
 pub fn low_half(l: [u16; 16]) -> Block
     ensures { λ r. ⌜ bytesOf r ≡ littles 2 (take 8 l) ⌝ }
 {
-    Block {
-        w0: pair(l[0], l[1]),
-        w1: pair(l[2], l[3]),
-        w2: pair(l[4], l[5]),
-        w3: pair(l[6], l[7]),
-    }
+    eight(l[0], l[1], l[2], l[3], l[4], l[5], l[6], l[7])
 }
 
 // Cells 8 to 15.
 pub fn high_half(l: [u16; 16]) -> Block
     ensures { λ r. ⌜ bytesOf r ≡ littles 2 (drop 8 l) ⌝ }
 {
-    Block {
-        w0: pair(l[8], l[9]),
-        w1: pair(l[10], l[11]),
-        w2: pair(l[12], l[13]),
-        w3: pair(l[14], l[15]),
-    }
+    eight(l[8], l[9], l[10], l[11], l[12], l[13], l[14], l[15])
 }
 
 // Bytes 0 and 2 of p and of q in turn.

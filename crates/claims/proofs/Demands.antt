@@ -1,23 +1,18 @@
 -- Demands 2 and 3. What a list ends in is the start that it began with, moved on by what it drew; and at a count a state has one such start, which
 -- trace finds.
 use mathlib.Core.Path.{_≡_, subst}
-use mathlib.Core.Bool.{not}
-use borrow.Author.Tests.{eqb-true, not-false}
-use lib.Dec.{eqb, lit<}
 use lib.ListN.{length}
-use Rattle.scope.specs.Refusals.{refuse, key-length, iv-length}
 use Rattle.words.specs.Bytes.{Row}
 use Rattle.cipher.specs.Registers.{IsRegisters}
 use Rattle.cipher.specs.Run.{forward}
 use Rattle.cipher.proofs.Moves.{moves-good}
 use Rattle.start.specs.Start.{start, start-number}
 use Rattle.start.specs.Leads.{LeadsTo}
-use Rattle.start.proofs.Answers.{both-right}
+use Rattle.start.proofs.Answers.{both-right, lengths-right}
 use Rattle.start.proofs.Undo.{start-good}
 use Rattle.start.proofs.Tracing.{leads-one, traces}
 use Rattle.suspend.proofs.Resuming.{revives}
 use Rattle.session.specs.Calls.{begin-call}
-use Rattle.page.proofs.WholeCalls.{refuse-none}
 use Rattle.claims.specs.Lists.{Bytes, History, History.in-session, History.in-runs, key-of, iv-of, mode-of, Accepted, end, drawn}
 use Rattle.claims.specs.Claims.{Keyed, SealsByPieces, SealsAndOpens, OneStayPerState}
 use Rattle.claims.proofs.Within.{row-of}
@@ -51,13 +46,7 @@ seals-and-opens =
 
 -- what an accepted start, or begin, says of the lengths
 pub start-keyed : (key iv : Bytes) → start-number (key .list) (iv .list) ≡ 0 → Keyed key iv
-unfolding start-number
-start-keyed key iv e =
-    let k = length (key .list) in
-    let v = length (iv .list) in
-    let a = refuse-none (not (eqb k 32)) key-length (refuse (not (eqb v 16)) iv-length 0) (lit< tt) e in
-    let b = refuse-none (not (eqb v 16)) iv-length 0 (lit< tt) (a .1) in
-    record { key-long = eqb-true k 32 (not-false (eqb k 32) (a .0)); iv-long = eqb-true v 16 (not-false (eqb v 16) (b .0)) }
+start-keyed key iv e = let n = lengths-right (key .list) (iv .list) e in record { key-long = n .0; iv-long = n .1 }
 
 begin-keyed : (key iv : Bytes) → begin-call (key .list) (iv .list) .number ≡ 0 → Keyed key iv
 unfolding begin-call

@@ -194,7 +194,7 @@ pub enum Outcome {
 }
 
 // An enum holds no array, so the tag stands beside it (zeros on a refusal).
-pub struct Tagged {
+pub struct Answered {
     pub outcome: Outcome,
     pub tag: [u8; 16],
 }
@@ -210,7 +210,7 @@ fn number(o: Outcome) -> u64
 }
 
 // Seals what four lines say; the ciphertext goes to the front of the output.
-fn seal_lines(input: &[u8], p: Places, cipher: &mut [u8; MOST_BYTES]) -> Tagged
+fn seal_lines(input: &[u8], p: Places, cipher: &mut [u8; MOST_BYTES]) -> Answered
     requires { ⌜ (linesOf (now input) (Lines.Good p) ≡ lines-in (now input)) × Ordered (now input) (Lines.Good p) ⌝ }
     ensures answer { λ r. ⌜ answerOf (now (cipher .exit)) (r .tag) (r .outcome) ≡ answer-to (lines-in (now (input .entry))) ⌝ }
     ensures within { λ r. ⌜ Within (now (cipher .exit)) (r .outcome) ⌝ }
@@ -231,12 +231,12 @@ fn seal_lines(input: &[u8], p: Places, cipher: &mut [u8; MOST_BYTES]) -> Tagged
     let n = s.answer;
     let tag = s.tag;
     if n != scope::ACCEPTED {
-        return Tagged {
+        return Answered {
             outcome: Outcome::Refused(n),
             tag: tag,
         };
     }
-    Tagged {
+    Answered {
         outcome: Outcome::Done(t),
         tag: tag,
     }

@@ -4,14 +4,12 @@ ghost use mathlib.Core.List.{_++_};
 ghost use Prim.Native.Nat.{_+_, _-_, _%_, _<_, _≤_};
 ghost use lib.ListN.{length, take};
 ghost use lib.Seq.{sets, slice};
-ghost use Rattle.words.specs.Machine.{bytesOf};
-ghost use Rattle.ghash.specs.Hash.{eat, hashFrom};
-ghost use Rattle.ghash.specs.Machine.{numberOf, bytesOfElement, Tables};
+ghost use Rattle.ghash.specs.Hash.{hashFrom};
+ghost use Rattle.ghash.specs.Machine.{bytesOfElement, Table};
 ghost use Rattle.digest.specs.Sum;
 ghost use Rattle.digest.specs.Digest.{absorb, settled};
 ghost use Rattle.digest.specs.Machine.{sumOf};
 use ghash::Element;
-use words::Block;
 
 // `pending` holds the bytes not yet hashed, from the left, with zeros behind them.
 pub struct Held {
@@ -46,22 +44,29 @@ fn keep(p: [u8; 16], at: usize, piece: &[u8], from: usize, to: usize) -> [u8; 16
 }
 
 // The whole blocks of the piece from `from` up to `to`, from y on.
-fn blocks(h: Element, y: Element, piece: &[u8], from: usize, to: usize, t: &[u64; 1024]) -> Element
-    requires { ⌜ (from ≤ to) × (to ≤ length (now piece)) × ((to - from) % 16 ≡ 0) × Tables (numberOf h) (now t) ⌝ }
+fn blocks(
+    h: Element,
+    y: Element,
+    piece: &[u8],
+    from: usize,
+    to: usize,
+    table: &[u64; 1024],
+) -> Element
+    requires { ⌜ (from ≤ to) × (to ≤ length (now piece)) × ((to - from) % 16 ≡ 0) × Table (bytesOfElement h) (now table) ⌝ }
     ensures { λ r. ⌜ bytesOfElement r ≡ hashFrom (bytesOfElement h) (bytesOfElement y) (slice from to (now (piece .entry))) ⌝ }
 {
     let mut z = y;
     let mut i = from;
     while i < to {
-        z = ghash::absorb(z, words::load(piece, i), h, t);
+        z = ghash::absorb(z, words::load(piece, i), h, table);
         i += 16;
     }
     z
 }
 
 // The block in use, of which `at` bytes are held, filled from the piece and hashed; nothing where it is empty.
-fn head(h: Element, d: Held, at: usize, piece: &[u8], t: &[u64; 1024]) -> Element
-    requires { ⌜ (at < 16) × (16 ≤ at + length (now piece)) × Tables (numberOf h) (now t) ⌝ }
+fn head(h: Element, d: Held, at: usize, piece: &[u8], table: &[u64; 1024]) -> Element
+    requires { ⌜ (at < 16) × (16 ≤ at + length (now piece)) × Table (bytesOfElement h) (now table) ⌝ }
     ensures { λ r. ⌜ bytesOfElement r
         ≡ hashFrom (bytesOfElement h) (bytesOfElement (d .acc)) (take at (d .pending) ++ slice 0 ((16 - at) % 16) (now (piece .entry))) ⌝ }
 {
@@ -71,7 +76,7 @@ fn head(h: Element, d: Held, at: usize, piece: &[u8], t: &[u64; 1024]) -> Elemen
     }
     let p = d.pending;
     let q = keep(p, at, piece, 0, 16 - at);
-    ghash::absorb(y, words::load(&q, 0), h, t)
+    ghash::absorb(y, words::load(&q, 0), h, table)
 }
 
 // Fewer bytes than fill the block in use: they are held.
@@ -85,9 +90,9 @@ fn hold(h: Element, d: Held, n: u64, piece: &[u8]) -> Held
     Held { acc: y, pending: q }
 }
 
-// As `absorb`, with the tables of h lent.
-pub fn absorb_with(h: Element, d: Held, n: u64, piece: &[u8], t: &[u64; 1024]) -> Held
-    requires { ⌜ Tables (numberOf h) (now t) ⌝ }
+// As `absorb`, with the table of h lent.
+pub fn absorb_with(h: Element, d: Held, n: u64, piece: &[u8], table: &[u64; 1024]) -> Held
+    requires { ⌜ Table (bytesOfElement h) (now table) ⌝ }
     ensures { λ r. ⌜ sumOf r ≡ absorb (bytesOfElement h) (sumOf d) n (now (piece .entry)) ⌝ }
 {
     let at = (n % 16) as usize;
@@ -97,7 +102,7 @@ pub fn absorb_with(h: Element, d: Held, n: u64, piece: &[u8], t: &[u64; 1024]) -
     }
     let from = (16 - at) % 16;
     let to = from + (len - from) / 16 * 16;
-    let y = blocks(h, head(h, d, at, piece, t), piece, from, to, t);
+    let y = blocks(h, head(h, d, at, piece, table), piece, from, to, table);
     let zeros = [0u8; 16];
     let q = keep(zeros, 0, piece, to, len);
     Held { acc: y, pending: q }
@@ -111,23 +116,14 @@ pub fn absorb(h: Element, d: Held, n: u64, piece: &[u8]) -> Held
     if piece.len() < 16 - at {
         return hold(h, d, n, piece);
     }
-    let mut t = [0u64; 1024];
-    ghash::fill(&mut t, h);
-    absorb_with(h, d, n, piece, &t)
+    let mut table = [0u64; 1024];
+    ghash::fill(&mut table, h);
+    absorb_with(h, d, n, piece, &table)
 }
 
-// One block more, with the table made for it.
-pub fn hash_block(h: Element, y: Element, x: Block) -> Element
-    ensures { λ r. ⌜ bytesOfElement r ≡ eat (bytesOfElement h) (bytesOfElement y) (bytesOf x) ⌝ }
-{
-    let mut t = [0u64; 1024];
-    ghash::fill(&mut t, h);
-    ghash::absorb(y, x, h, &t)
-}
-
-// As `settle`, with the tables of h lent.
-pub fn settle_with(h: Element, d: Held, n: u64, t: &[u64; 1024]) -> Element
-    requires { ⌜ Tables (numberOf h) (now t) ⌝ }
+// As `settle`, with the table of h lent.
+pub fn settle_with(h: Element, d: Held, n: u64, table: &[u64; 1024]) -> Element
+    requires { ⌜ Table (bytesOfElement h) (now table) ⌝ }
     ensures { λ r. ⌜ bytesOfElement r ≡ settled (bytesOfElement h) (sumOf d) n ⌝ }
 {
     let y = d.acc;
@@ -135,7 +131,7 @@ pub fn settle_with(h: Element, d: Held, n: u64, t: &[u64; 1024]) -> Element
         return y;
     }
     let p = d.pending;
-    ghash::absorb(y, words::load(&p, 0), h, t)
+    ghash::absorb(y, words::load(&p, 0), h, table)
 }
 
 // The hash once n bytes are in: what is held is padded with zeros and hashed.
@@ -143,9 +139,9 @@ pub fn settle(h: Element, d: Held, n: u64) -> Element
     ensures { λ r. ⌜ bytesOfElement r ≡ settled (bytesOfElement h) (sumOf d) n ⌝ }
 {
     if 0 < n % 16 {
-        let mut t = [0u64; 1024];
-        ghash::fill(&mut t, h);
-        return settle_with(h, d, n, &t);
+        let mut table = [0u64; 1024];
+        ghash::fill(&mut table, h);
+        return settle_with(h, d, n, &table);
     }
     let y = d.acc;
     y

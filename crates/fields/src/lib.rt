@@ -20,12 +20,6 @@ pub fn put(out: &mut [u8], at: usize, k: usize, n: u64)
     }
 }
 
-fn wide(x: u8) -> u64
-    ensures { λ r. ⌜ (r ≡ x) × (r < 256) ⌝ }
-{
-    x as u64
-}
-
 // The number that k bytes spell.
 pub fn get(s: &[u8], at: usize, k: usize) -> u64
     requires { ⌜ (at + k ≤ length (now s)) × (k ≤ 8) ⌝ }
@@ -35,7 +29,7 @@ pub fn get(s: &[u8], at: usize, k: usize) -> u64
     let mut i = k;
     while 0 < i {
         i -= 1;
-        n = n * 256 + wide(s[at + i]);
+        n = n * 256 + words::wide(s[at + i]) as u64;
     }
     n
 }

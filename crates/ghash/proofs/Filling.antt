@@ -1,4 +1,4 @@
--- The tables are filled from the left. A number is moved one bit to the left while V is multiplied by x, and their product stays: so while p
+-- The table is filled from the left. A number is moved one bit to the left while V is multiplied by x, and their product stays: so while p
 -- places are to come, the multiples of V by the leftmost four bits are those of H by the four bits at place p - 1.
 use mathlib.Core.Path.{_≡_, refl, sym, ap, ap₂, subst, _∙_}
 use mathlib.Core.List.{List, [], _∷_, _++_}
@@ -11,7 +11,9 @@ use lib.ListN.{length, getD, set, take, drop, length-take, length-append, List·
 use lib.Pow.{pow-add, shl-lt}
 use lib.Seq.{sets, sets-eq, getD-append-add, getD-set-other, length-sets}
 use Rattle.ghash.specs.Field.{timesX, product}
-use Rattle.ghash.specs.Machine.{entries, Tables, multiples}
+use Rattle.ghash.specs.Machine.{numberOf, bytesOfElement, entries, Table, multiples}
+use Rattle.ghash.specs.declared.Element.{Element}
+use Rattle.ghash.proofs.Elements.{Halves, number-bytes}
 use Rattle.ghash.proofs.Product.{product-shift}
 use Rattle.ghash.proofs.Places.{entries-long, entries-at, multiples-at, multiples-long}
 
@@ -102,6 +104,7 @@ module _ (h v v′ p : ℕ) (t t′ : List ℕ) (f : Filled h v (suc p) t) (ev :
         done = done-next;
       }
 
-pub filled-all : (h v : ℕ) (t : List ℕ) → Filled h v 0 t → Tables h t
-unfolding Tables
-filled-all h v t f p k hp hk = sym (entries-at t (p * 16 + k) (omega (arith, f .long))) ∙ f .done p k (omega arith) hp hk
+pub filled-all : (h : Element) → Halves h → (v : ℕ) (t : List ℕ) → Filled (numberOf h) v 0 t → Table (bytesOfElement h) t
+unfolding Table
+filled-all h n v t f p k hp hk =
+    sym (entries-at t (p * 16 + k) (omega (arith, f .long))) ∙ f .done p k (omega arith) hp hk ∙ ap (product (k * 16 ^ p)) (sym (number-bytes h n))

@@ -1,5 +1,5 @@
 -- The product is the ⊕ of Vᵢ over the bits xᵢ of X that are 1, so it is linear in X; 80 00.. is its one; and X • Y is (X moved one bit to the
--- left) • (Y times x), which is what the tables of multiples rest on.
+-- left) • (Y times x), which is what the table of H rests on.
 use mathlib.Core.Path.{_≡_, refl, sym, ap, ap₂, _∙_}
 use Prim.Native.Nat.{ℕ, zero, suc, _*_, _/_, _%_, _^_, _<_}
 use native.Mathlib.Omega.{arith}

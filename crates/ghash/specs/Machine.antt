@@ -5,7 +5,7 @@ use mathlib.Core.Path.{_≡_}
 use mathlib.Core.List.{List, [], _∷_}
 use lib.ListN.{getD}
 use Rattle.ghash.specs.Field.{product}
-use Rattle.ghash.specs.Hash.{bigs}
+use Rattle.ghash.specs.Hash.{big, bigs}
 use Rattle.ghash.specs.declared.Element.{Element}
 
 -- bytes 0 to 7 are the high half
@@ -20,11 +20,11 @@ bytesOfElement e = bigs 16 (numberOf e)
 abbrev pub entry : List ℕ → ℕ → ℕ
 entry t i = getD t (i * 2) 0 * 2 ^ 64 + getD t (i * 2 + 1) 0
 
--- the tables of H, one for each of a block's 32 places of four bits, place 0 the rightmost: entry v of place p is v, at that place, • H
-unfoldable pub Tables : ℕ → List ℕ → Type 0
-Tables h t = (p v : ℕ) → p < 32 → v < 16 → entry t (p * 16 + v) ≡ product (v * 16 ^ p) h
+-- the table of H, 16 entries for each of a block's 32 places of four bits, place 0 the rightmost: entry v of place p is v, at that place, • H
+unfoldable pub Table : (h table : List ℕ) → Type 0
+Table h t = (p v : ℕ) → p < 32 → v < 16 → entry t (p * 16 + v) ≡ product (v * 16 ^ p) (big h)
 
--- ---- for the functions that fill them
+-- ---- for the functions that fill it
 
 -- all entries
 unfoldable pub entries : List ℕ → List ℕ

@@ -1,4 +1,4 @@
-// GHASH of NIST SP 800-38D on two halves of 64 bits. A product is the xor of 32 entries, one for each four bits of a block, of tables that are
+// GHASH of NIST SP 800-38D on two halves of 64 bits. A product is the xor of 32 entries, one for each four bits of a block, of a table that is
 // made once for an H and lent.
 ghost use mathlib.Core.Path.{_≡_};
 ghost use mathlib.Core.List.{[], _∷_};
@@ -10,7 +10,7 @@ ghost use Rattle.words.specs.Bytes.{little};
 ghost use Rattle.words.specs.Machine.{bytesOf};
 ghost use Rattle.ghash.specs.Field.{timesX, product};
 ghost use Rattle.ghash.specs.Hash.{big, eat};
-ghost use Rattle.ghash.specs.Machine.{numberOf, bytesOfElement, entry, entries, multiples, Tables};
+ghost use Rattle.ghash.specs.Machine.{numberOf, bytesOfElement, entry, entries, multiples, Table};
 use words::Block;
 
 // A block as a number: `hi` is bytes 0 to 7, high byte first, and `lo` bytes 8 to 15.
@@ -39,80 +39,71 @@ fn times_x(v: Element) -> Element
 }
 
 // Entry i becomes e.
-fn put(t: &mut [u64; 1024], i: usize, e: Element)
+fn put(table: &mut [u64; 1024], i: usize, e: Element)
     requires { ⌜ i < 512 ⌝ }
-    ensures { λ _. ⌜ entries (now (t .exit)) ≡ set (entries (now (t .entry))) i (numberOf e) ⌝ }
+    ensures { λ _. ⌜ entries (now (table .exit)) ≡ set (entries (now (table .entry))) i (numberOf e) ⌝ }
 {
-    t[i * 2] = e.hi;
-    t[i * 2 + 1] = e.lo;
+    table[i * 2] = e.hi;
+    table[i * 2 + 1] = e.lo;
 }
 
 // Four entries: w, and w with each sum of a and b.
-fn four(t: &mut [u64; 1024], i: usize, w: Element, a: Element, b: Element, ab: Element)
+fn four(table: &mut [u64; 1024], i: usize, w: Element, a: Element, b: Element, ab: Element)
     requires { ⌜ i + 4 ≤ 512 ⌝ }
-    ensures { λ _. ⌜ entries (now (t .exit))
-        ≡ sets (entries (now (t .entry))) i
+    ensures { λ _. ⌜ entries (now (table .exit))
+        ≡ sets (entries (now (table .entry))) i
         (numberOf w ∷ (numberOf w ⊕ numberOf a) ∷ (numberOf w ⊕ numberOf b) ∷ (numberOf w ⊕ numberOf ab) ∷ []) ⌝ }
 {
-    put(t, i, w);
-    put(t, i + 1, xor(w, a));
-    put(t, i + 2, xor(w, b));
-    put(t, i + 3, xor(w, ab));
+    put(table, i, w);
+    put(table, i + 1, xor(w, a));
+    put(table, i + 2, xor(w, b));
+    put(table, i + 3, xor(w, ab));
 }
 
-// The table of place p, where the leftmost four bits • v are those at that place • H; and v for the place to the right of it.
-fn place(t: &mut [u64; 1024], p: usize, v: Element) -> Element
+// The entries of place p, where the leftmost four bits • v are those at that place • H; and v for the place to the right of it.
+fn place(table: &mut [u64; 1024], p: usize, v: Element) -> Element
     requires { ⌜ p < 32 ⌝ }
     ensures { λ r. ⌜ numberOf r ≡ timesX (timesX (timesX (timesX (numberOf v)))) ⌝ }
-    ensures { λ _. ⌜ entries (now (t .exit)) ≡ sets (entries (now (t .entry))) (p * 16) (multiples (numberOf v)) ⌝ }
+    ensures { λ _. ⌜ entries (now (table .exit)) ≡ sets (entries (now (table .entry))) (p * 16) (multiples (numberOf v)) ⌝ }
 {
     let v4 = times_x(v);
     let v2 = times_x(v4);
     let v1 = times_x(v2);
     let v3 = xor(v2, v1);
     let zero = Element { hi: 0, lo: 0 };
-    four(t, p * 16, zero, v1, v2, v3);
-    four(t, p * 16 + 4, v4, v1, v2, v3);
-    four(t, p * 16 + 8, v, v1, v2, v3);
-    four(t, p * 16 + 12, xor(v, v4), v1, v2, v3);
+    four(table, p * 16, zero, v1, v2, v3);
+    four(table, p * 16 + 4, v4, v1, v2, v3);
+    four(table, p * 16 + 8, v, v1, v2, v3);
+    four(table, p * 16 + 12, xor(v, v4), v1, v2, v3);
     times_x(v1)
 }
 
-// The tables of h, into lent words: as `tables`, with no copy made.
-pub fn fill(t: &mut [u64; 1024], h: Element)
-    requires { ⌜ length (now t) ≡ 1024 ⌝ }
-    ensures { λ _. ⌜ Tables (numberOf h) (now (t .exit)) ⌝ }
+// The table of h, for `times` and `absorb`, into lent words.
+pub fn fill(table: &mut [u64; 1024], h: Element)
+    requires { ⌜ length (now table) ≡ 1024 ⌝ }
+    ensures { λ _. ⌜ Table (bytesOfElement h) (now (table .exit)) ⌝ }
 {
     let mut v = h;
     let mut p: usize = 32;
     while 0 < p {
         p -= 1;
-        v = place(t, p, v);
+        v = place(table, p, v);
     }
 }
 
-// The tables of h, for `times` and `absorb`.
-pub fn tables(h: Element) -> [u64; 1024]
-    ensures { λ r. ⌜ Tables (numberOf h) r ⌝ }
-{
-    let mut t = [0u64; 1024];
-    fill(&mut t, h);
-    t
-}
-
-fn entry(t: &[u64; 1024], i: usize) -> Element
+fn entry(table: &[u64; 1024], i: usize) -> Element
     requires { ⌜ i < 512 ⌝ }
-    ensures { λ r. ⌜ numberOf r ≡ entry (now (t .entry)) i ⌝ }
+    ensures { λ r. ⌜ numberOf r ≡ entry (now (table .entry)) i ⌝ }
 {
     Element {
-        hi: t[i * 2],
-        lo: t[i * 2 + 1],
+        hi: table[i * 2],
+        lo: table[i * 2 + 1],
     }
 }
 
-// x • h, with the tables of h. `h` itself is not read: it says in the contract whose tables these are.
-pub fn times(x: Element, h: Element, t: &[u64; 1024]) -> Element
-    requires { ⌜ Tables (numberOf h) (now t) ⌝ }
+// x • h, with the table of h. `h` itself is not read: it says in the contract whose table this is.
+pub fn times(x: Element, h: Element, table: &[u64; 1024]) -> Element
+    requires { ⌜ Table (bytesOfElement h) (now table) ⌝ }
     ensures { λ r. ⌜ numberOf r ≡ product (numberOf x) (numberOf h) ⌝ }
 {
     let mut z = Element { hi: 0, lo: 0 };
@@ -120,8 +111,8 @@ pub fn times(x: Element, h: Element, t: &[u64; 1024]) -> Element
     let mut b = x.lo;
     let mut i: usize = 0;
     while i < 16 {
-        z = xor(z, entry(t, i * 16 + (b % 16) as usize));
-        z = xor(z, entry(t, i * 16 + 256 + (a % 16) as usize));
+        z = xor(z, entry(table, i * 16 + (b % 16) as usize));
+        z = xor(z, entry(table, i * 16 + 256 + (a % 16) as usize));
         a = a / 16;
         b = b / 16;
         i += 1;
@@ -168,17 +159,17 @@ pub fn to_block(e: Element) -> Block
 }
 
 // One element more: (y ⊕ x) • h.
-pub fn absorb_element(y: Element, x: Element, h: Element, t: &[u64; 1024]) -> Element
-    requires { ⌜ Tables (numberOf h) (now t) ⌝ }
+pub fn absorb_element(y: Element, x: Element, h: Element, table: &[u64; 1024]) -> Element
+    requires { ⌜ Table (bytesOfElement h) (now table) ⌝ }
     ensures { λ r. ⌜ bytesOfElement r ≡ eat (bytesOfElement h) (bytesOfElement y) (bytesOfElement x) ⌝ }
 {
-    times(xor(y, x), h, t)
+    times(xor(y, x), h, table)
 }
 
 // The same for a block of the cipher.
-pub fn absorb(y: Element, x: Block, h: Element, t: &[u64; 1024]) -> Element
-    requires { ⌜ Tables (numberOf h) (now t) ⌝ }
+pub fn absorb(y: Element, x: Block, h: Element, table: &[u64; 1024]) -> Element
+    requires { ⌜ Table (bytesOfElement h) (now table) ⌝ }
     ensures { λ r. ⌜ bytesOfElement r ≡ eat (bytesOfElement h) (bytesOfElement y) (bytesOf x) ⌝ }
 {
-    absorb_element(y, from_block(x), h, t)
+    absorb_element(y, from_block(x), h, table)
 }

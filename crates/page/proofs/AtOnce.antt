@@ -4,11 +4,10 @@ use mathlib.Core.Path.{_≡_, refl, sym, ap, subst, _∙_}
 use mathlib.Core.List.{List, [], _++_}
 use Prim.Native.Nat.{ℕ}
 use lib.ListN.{length, drop}
-use Rattle.ghash.specs.Machine.{bytesOfElement}
+use Rattle.ghash.specs.Machine.{bytesOfElement, Table}
 use Rattle.session.specs.declared.Session as machine
 use Rattle.session.specs.Session.{Session}
 use Rattle.session.specs.Machine.{sessionOf}
-use Rattle.session.specs.Inner.{Multiples}
 use Rattle.session.specs.Calls.{Given, begin-call}
 use Rattle.session.specs.Pieces.{data-taken, closed, text-taken, text-out}
 use Rattle.start.specs.Start.{sealed-keystream}
@@ -28,9 +27,9 @@ module _ (key iv : List ℕ) where
 
   -- made for the session b, it serves s
   pub lent : (f g : Stage) (b s : machine.Session) (table : List ℕ) → sessionOf b ≡ session-at key iv f → sessionOf s ≡ session-at key iv g
-      → Multiples (bytesOfElement (b .h)) table → Multiples (bytesOfElement (s .h)) table
+      → Table (bytesOfElement (b .h)) table → Table (bytesOfElement (s .h)) table
   lent f g b s table eb es =
-      subst (λ (h : List ℕ). Multiples h table) (ap (λ (u : Session). u .h) eb ∙ h-at f ∙ sym (h-at g) ∙ ap (λ (u : Session). u .h) (sym es))
+      subst (λ (h : List ℕ). Table h table) (ap (λ (u : Session). u .h) eb ∙ h-at f ∙ sym (h-at g) ∙ ap (λ (u : Session). u .h) (sym es))
 
   -- ---- data, text
 

@@ -2,24 +2,33 @@
 ghost use mathlib.Core.Path.{_≡_};
 ghost use Rattle.words.specs.Bytes.{zeros};
 ghost use Rattle.words.specs.Machine.{bytesOf};
-ghost use Rattle.ghash.specs.Machine.{bytesOfElement};
+ghost use Rattle.ghash.specs.Machine.{bytesOfElement, Table};
 ghost use Rattle.session.specs.Machine.{sessionOf};
-ghost use Rattle.session.specs.Inner.{Multiples};
-ghost use Rattle.page.specs.Calls.{seal-number, seal-out, seal-tag, open-number, open-out};
+ghost use Rattle.page.specs.Calls.{over-limit, seal-number, seal-out, seal-tag, open-number, open-out};
 ghost use Rattle.page.specs.Inner.{tag-over};
 use session::Session;
 use words::Block;
 
 // A seal's answer, 0 or the refusal's number, and the tag (zeros on a refusal).
-pub struct Sealed {
+pub struct Tagged {
     pub answer: u64,
     pub tag: [u8; 16],
 }
 
-fn refused(answer: u64) -> Sealed
+// Whether data or text is over its limit.
+pub fn over_limit(ad: &[u8], text: &[u8]) -> bool
+    ensures { λ r. ⌜ r ≡ over-limit (now (ad .entry)) (now (text .entry)) ⌝ }
+{
+    if ad.len() as u64 > scope::MOST_DATA {
+        return true;
+    }
+    text.len() as u64 > scope::MOST_TEXT
+}
+
+fn refused(answer: u64) -> Tagged
     ensures { λ r. ⌜ (r .answer ≡ answer) × (r .tag ≡ zeros) ⌝ }
 {
-    Sealed {
+    Tagged {
         answer: answer,
         tag: [0; 16],
     }
@@ -27,21 +36,16 @@ fn refused(answer: u64) -> Sealed
 
 // Seals a page: the ciphertext goes to the front of the output, as many bytes as the text has, and the tag comes back. Refused: 1 for the key's
 // length, 2 for the IV's, 3 for data over 65,535 bytes or text over 1,048,576, 4 for an output shorter than the text.
-pub fn seal(key: &[u8], iv: &[u8], ad: &[u8], text: &[u8], out: &mut [u8]) -> Sealed
+pub fn seal(key: &[u8], iv: &[u8], ad: &[u8], text: &[u8], out: &mut [u8]) -> Tagged
     ensures answer { λ r. ⌜ r .answer ≡ seal-number (now (key .entry)) (now (iv .entry)) (now (ad .entry)) (now (text .entry)) (now (out .entry)) ⌝ }
     ensures tag { λ r. ⌜ r .tag ≡ seal-tag (now (key .entry)) (now (iv .entry)) (now (ad .entry)) (now (text .entry)) (now (out .entry)) ⌝ }
     ensures out { λ _. ⌜ now (out .exit) ≡ seal-out (now (key .entry)) (now (iv .entry)) (now (ad .entry)) (now (text .entry)) (now (out .entry)) ⌝ }
 {
-    if key.len() != 32 {
-        return refused(scope::KEY_LENGTH);
+    let n = start::lengths(key, iv);
+    if n != 0 {
+        return refused(n);
     }
-    if iv.len() != 16 {
-        return refused(scope::IV_LENGTH);
-    }
-    if ad.len() as u64 > scope::MOST_DATA {
-        return refused(scope::TOO_LONG);
-    }
-    if text.len() as u64 > scope::MOST_TEXT {
+    if over_limit(ad, text) {
         return refused(scope::TOO_LONG);
     }
     if out.len() < text.len() {
@@ -51,18 +55,18 @@ pub fn seal(key: &[u8], iv: &[u8], ad: &[u8], text: &[u8], out: &mut [u8]) -> Se
     let begun = b.session;
     let h = begun.h;
     let mut table = [0u64; 1024];
-    session::multiples(h, &mut table);
-    let told = session::data_with(begun, ad, &table);
-    let whole = session::text_with(told, text, out, &table);
-    Sealed {
+    ghash::fill(&mut table, h);
+    let told = session::lent::data_with(begun, ad, &table);
+    let whole = session::lent::text_with(told, text, out, &table);
+    Tagged {
         answer: scope::ACCEPTED,
-        tag: words::to_bytes(session::tag_with(whole, &table)),
+        tag: words::to_bytes(session::lent::tag_with(whole, &table)),
     }
 }
 
 // The tag of a session whose data is closed, over a ciphertext that is read and not written.
 fn tag_over(s: Session, cipher: &[u8], table: &[u64; 1024]) -> Block
-    requires { ⌜ Multiples (bytesOfElement (s .h)) (now table) ⌝ }
+    requires { ⌜ Table (bytesOfElement (s .h)) (now table) ⌝ }
     ensures { λ r. ⌜ bytesOf r ≡ tag-over (sessionOf s) (now (cipher .entry)) ⌝ }
 {
     let h = s.h;
@@ -72,7 +76,7 @@ fn tag_over(s: Session, cipher: &[u8], table: &[u64; 1024]) -> Block
     u.phase = 1;
     u.text = cipher.len() as u64;
     u.held = e;
-    session::tag_with(u, table)
+    session::lent::tag_with(u, table)
 }
 
 // Opens a page: the text goes to the front of the output, as many bytes as the ciphertext has, if the tag is the one that the data and the
@@ -82,19 +86,14 @@ pub fn open(key: &[u8], iv: &[u8], ad: &[u8], cipher: &[u8], tag: &[u8], out: &m
     ensures answer { λ r. ⌜ r ≡ open-number (now (key .entry)) (now (iv .entry)) (now (ad .entry)) (now (cipher .entry)) (now (tag .entry)) (now (out .entry)) ⌝ }
     ensures out { λ _. ⌜ now (out .exit) ≡ open-out (now (key .entry)) (now (iv .entry)) (now (ad .entry)) (now (cipher .entry)) (now (tag .entry)) (now (out .entry)) ⌝ }
 {
-    if key.len() != 32 {
-        return scope::KEY_LENGTH;
-    }
-    if iv.len() != 16 {
-        return scope::IV_LENGTH;
+    let n = start::lengths(key, iv);
+    if n != 0 {
+        return n;
     }
     if tag.len() != 16 {
         return scope::TAG_LENGTH;
     }
-    if ad.len() as u64 > scope::MOST_DATA {
-        return scope::TOO_LONG;
-    }
-    if cipher.len() as u64 > scope::MOST_TEXT {
+    if over_limit(ad, cipher) {
         return scope::TOO_LONG;
     }
     if out.len() < cipher.len() {
@@ -104,12 +103,12 @@ pub fn open(key: &[u8], iv: &[u8], ad: &[u8], cipher: &[u8], tag: &[u8], out: &m
     let begun = b.session;
     let h = begun.h;
     let mut table = [0u64; 1024];
-    session::multiples(h, &mut table);
-    let ready = session::close_with(session::data_with(begun, ad, &table), &table);
+    ghash::fill(&mut table, h);
+    let ready = session::lent::close_with(session::lent::data_with(begun, ad, &table), &table);
     let given = words::load(tag, 0);
     let expected = tag_over(ready, cipher, &table);
     if words::same(given, expected) {
-        session::apply_keystream(ready, cipher, out);
+        session::lent::apply_keystream(ready, cipher, out);
         return scope::ACCEPTED;
     }
     scope::BAD_TAG

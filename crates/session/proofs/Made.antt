@@ -1,6 +1,6 @@
 -- What the code's values make of a session, in the terms of the definitions: text held under the block in use, a block filled, and the track
 -- of whole blocks.
-use mathlib.Core.Path.{_≡_, sym, ap, ap₂, subst, _∙_}
+use mathlib.Core.Path.{_≡_, sym, ap, ap₂, _∙_}
 use mathlib.Core.List.{List}
 use Prim.Native.Nat.{ℕ, _+_, _-_, _%_, _≤_, _<_}
 use native.Mathlib.Omega.{arith}
@@ -9,18 +9,15 @@ use lib.Seq.{sets, length-sets}
 use Rattle.words.specs.Xor.{xors}
 use Rattle.words.proofs.Blocks.{bytesOf-block}
 use Rattle.ghash.specs.Hash.{eat}
-use Rattle.ghash.specs.Machine.{numberOf, bytesOfElement, Tables}
-use Rattle.ghash.specs.declared.Element.{Element}
-use Rattle.ghash.proofs.Elements.{Halves, number-bytes}
 use Rattle.cipher.specs.Step.{z}
 use Rattle.cipher.specs.Machine.{registersOf}
 use Rattle.digest.specs.Sum.{fresh}
 use Rattle.session.specs.declared.Session as machine
-use Rattle.session.specs.declared.Lane.{Lane}
+use Rattle.session.specs.declared.blocks.Lane.{Lane}
 use Rattle.session.specs.Session.{Session}
 use Rattle.session.specs.Pieces.{text-taken, text-out}
 use Rattle.session.specs.Machine.{sessionOf}
-use Rattle.session.specs.Inner.{ready, masked, counted, holding, held, Track, trackOf, block-taken, Multiples}
+use Rattle.session.specs.Inner.{ready, masked, counted, holding, held, Track, trackOf, block-taken}
 use Rattle.session.proofs.Within.{within-out, within-few, within-full, block-out, block-taken-is}
 
 -- ---- text of one block: u is the session made ready, q what it then holds of the text p
@@ -83,11 +80,3 @@ module _ (s : Session) (l r : Lane) (n : ℕ) (p : List ℕ) (er : trackOf r ≡
   -- nothing is held behind a block
   pub turn-long : length (r .held .pending) ≡ 16
   turn-long = ap (λ (t : Track). length (t .sum .pending)) er
-
--- ---- the table of H, by the element and by its bytes
-
-pub by-bytes : (e : Element) (table : List ℕ) → Halves e → Tables (numberOf e) table → Multiples (bytesOfElement e) table
-by-bytes e table h t = subst (λ (n : ℕ). Tables n table) (sym (number-bytes e h)) t
-
-pub by-number : (e : Element) (table : List ℕ) → Halves e → Multiples (bytesOfElement e) table → Tables (numberOf e) table
-by-number e table h t = subst (λ (n : ℕ). Tables n table) (number-bytes e h) t

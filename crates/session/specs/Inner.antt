@@ -11,14 +11,14 @@ use Rattle.words.specs.Xor.{xors}
 use Rattle.words.specs.Machine.{bytesOf}
 use Rattle.aes.specs.Field.{sub}
 use Rattle.aes.specs.Tables.{Holds}
-use Rattle.ghash.specs.Hash.{big, eat}
-use Rattle.ghash.specs.Machine.{Tables}
+use Rattle.ghash.specs.Hash.{eat}
+use Rattle.ghash.specs.Machine.{Table}
 use Rattle.cipher.specs.Registers.{Registers}
 use Rattle.cipher.specs.Step.{z, step}
 use Rattle.cipher.specs.Machine.{registersOf}
 use Rattle.digest.specs.Sum.{Sum, fresh}
 use Rattle.digest.specs.Machine.{sumOf}
-use Rattle.session.specs.declared.Lane.{Lane}
+use Rattle.session.specs.declared.blocks.Lane.{Lane}
 use Rattle.session.specs.Session.{Session}
 use Rattle.session.specs.Pieces.{byte-current}
 
@@ -100,10 +100,7 @@ pub record Blocks (text p o from to : ℕ) : Type 0 where
   pub start : text % 16 ≡ 0
   pub whole : (to - from) % 16 ≡ 0
 
--- the lent tables: the S-box, and the multiples of H
-abbrev pub Multiples : (h table : List ℕ) → Type 0
-Multiples h table = Tables (big h) table
-
+-- the lent tables: the S-box, and that of H
 pub record Lent (h sbox table : List ℕ) : Type 0 where
   pub box : Holds sub sbox
-  pub multiples : Multiples h table
+  pub of-h : Table h table

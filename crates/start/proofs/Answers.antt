@@ -1,17 +1,25 @@
 -- The answers of start and trace by their lengths and counts, and the key put together from its halves.
-use mathlib.Core.Path.{_≡_, ap₂, _∙_}
+use mathlib.Core.Path.{_≡_, refl, ap₂, _∙_}
+use mathlib.Core.Bool.{Bool, true, false, not}
 use mathlib.Core.List.{List, _++_}
 use Prim.Native.Nat.{ℕ, _≤_, _<_}
 use native.Mathlib.Omega.{arith}
-use borrow.Author.Tests.{eq-eqb, ne-eqb, lt-ltb, le-ltb}
+use borrow.Author.Tests.{eq-eqb, ne-eqb, eqb-true, lt-ltb, le-ltb}
+use lib.Dec.{eqb}
 use lib.ListN.{length, take, drop, length-drop, take-append-drop}
 use lib.Seq.{take-all}
 use Rattle.scope.specs.Limits.{most-blocks}
+use Rattle.scope.specs.Refusals.{refuse}
 use Rattle.cipher.specs.Registers.{Registers}
 use Rattle.cipher.specs.Run.{backward, moves}
 use Rattle.start.specs.Start.{start-number}
 use Rattle.start.specs.Leads.{Traced.refused}
 use Rattle.start.specs.Trace.{loaded, unload, trace}
+
+neither : (a b : Bool) → refuse (not a) 1 (refuse (not b) 2 0) ≡ 0 → (a ≡ true) × (b ≡ true)
+neither true true e = (refl, refl)
+neither true false e = absurd (omega arith)
+neither false b e = absurd (omega arith)
 
 module _ (key iv : List ℕ) where
   pub bad-key : ¬ (length key ≡ 32) → start-number key iv ≡ 1
@@ -25,6 +33,11 @@ module _ (key iv : List ℕ) where
   pub both-right : length key ≡ 32 → length iv ≡ 16 → start-number key iv ≡ 0
   unfolding start-number
   both-right h k = rw (eq-eqb (length key) 32 h, eq-eqb (length iv) 16 k)
+
+  pub lengths-right : start-number key iv ≡ 0 → (length key ≡ 32) × (length iv ≡ 16)
+  unfolding start-number
+  lengths-right e =
+      let n = neither (eqb (length key) 32) (eqb (length iv) 16) e in (eqb-true (length key) 32 (n .0), eqb-true (length iv) 16 (n .1))
 
 pub key-whole : (key l h : List ℕ) → length key ≡ 32 → l ≡ take 16 (drop 0 key) → h ≡ take 16 (drop 16 key) → l ++ h ≡ key
 key-whole key l h e p q =

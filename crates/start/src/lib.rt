@@ -10,7 +10,7 @@ ghost use Rattle.aes.specs.Tables.{Holds};
 ghost use Rattle.cipher.specs.Run.{backward, moves};
 ghost use Rattle.cipher.specs.Machine.{registersOf};
 ghost use Rattle.start.specs.Start;
-ghost use Rattle.start.specs.Start.{blank, mode-cells};
+ghost use Rattle.start.specs.Start.{blank, mode-cells, start-number};
 ghost use Rattle.start.specs.Leads;
 ghost use Rattle.start.specs.Leads.{Traces};
 ghost use Rattle.start.specs.Trace;
@@ -165,19 +165,27 @@ pub fn blank_state() -> State
     }
 }
 
+// The number of a start: 1 for the key's length, 2 for the IV's.
+pub fn lengths(key: &[u8], iv: &[u8]) -> u64
+    ensures { λ r. ⌜ r ≡ start-number (now (key .entry)) (now (iv .entry)) ⌝ }
+{
+    if key.len() != 32 {
+        return scope::KEY_LENGTH;
+    }
+    if iv.len() != 16 {
+        return scope::IV_LENGTH;
+    }
+    scope::ACCEPTED
+}
+
 // Start under a key of 32 bytes with an IV of 16, in either mode. Refused: 1 for the key's length, 2 for the IV's.
 pub fn start(key: &[u8], iv: &[u8], mode: Mode) -> Started
     ensures { λ r. ⌜ Starts (now (key .entry)) (now (iv .entry)) (modeOf mode) r ⌝ }
 {
-    if key.len() != 32 {
+    let answer = lengths(key, iv);
+    if answer != 0 {
         return Started {
-            answer: scope::KEY_LENGTH,
-            state: blank_state(),
-        };
-    }
-    if iv.len() != 16 {
-        return Started {
-            answer: scope::IV_LENGTH,
+            answer: answer,
             state: blank_state(),
         };
     }

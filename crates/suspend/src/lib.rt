@@ -86,7 +86,7 @@ fn refused(n: u64) -> Resumed
 }
 
 // The IV's bytes from its two halves.
-fn iv_bytes(lo: u64, hi: u64) -> [u8; 16]
+pub fn iv_bytes(lo: u64, hi: u64) -> [u8; 16]
     ensures { λ r. ⌜ r ≡ little 8 lo ++ little 8 hi ⌝ }
 {
     let mut r = [0u8; 16];

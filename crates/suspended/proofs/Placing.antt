@@ -1,4 +1,5 @@
--- How code writes the registers to a slice, a register of cells by its halves and then field behind field, and how it reads them.
+-- How code writes the registers to a slice, a register of cells by its halves and then field behind field, and how it reads them; and blocks one
+-- behind the other.
 use mathlib.Core.Path.{_≡_, sym, ap, ap₂, _∙_}
 use mathlib.Core.List.{List, _++_}
 use Prim.Native.Nat.{ℕ, _+_}
@@ -6,7 +7,7 @@ use native.Mathlib.Omega.{arith}
 use lib.Dec.{lit≤}
 use lib.ListN.{length, take, drop, take-append-drop}
 use lib.Seq.{sets}
-use Rattle.words.specs.Bytes.{littles, numbers, part}
+use Rattle.words.specs.Bytes.{littles, numbers, part, IsBlock}
 use Rattle.words.specs.declared.Block.{Block}
 use Rattle.words.specs.Machine.{bytesOf}
 use Rattle.words.proofs.Rows.{row-append}
@@ -51,6 +52,15 @@ module _ (s : State) (na : length (s .lfsr .a) ≡ 16) (nb : length (s .lfsr .b)
       let p80 = put-next out ab (bytesOf (s .r1)) at (at + 64) (behind at (n64 .long)) p64 e3 in
       let p96 = put-next out (ab ++ bytesOf (s .r1)) (bytesOf (s .r2)) at (at + 80) (behind at (n80 .long)) p80 e4 in
       put-next out (ab ++ bytesOf (s .r1) ++ bytesOf (s .r2)) (bytesOf (s .r3)) at (at + 96) (behind at (n96 .long)) p96 e5
+
+-- ---- blocks, one behind the other
+
+module _ (out : List ℕ) (at : ℕ) {a : List ℕ} (row : IsBlock a) (b : List ℕ) {o1 o2 : List ℕ} (e1 : o1 ≡ sets out at a) (e2 : o2 ≡ sets o1 (at + 16) b) where
+  pub put-two : o2 ≡ sets out at (a ++ b)
+  put-two = put-next out a b at (at + 16) (let l = row .long in omega arith) e1 e2
+
+  pub put-three : IsBlock b → (c : List ℕ) {o3 : List ℕ} → o3 ≡ sets o2 (at + 32) c → o3 ≡ sets out at (a ++ b ++ c)
+  put-three row-b c e3 = put-next out (a ++ b) c at (at + 32) (let l = row-append 256 16 16 row row-b .long in omega arith) put-two e3
 
 -- ---- read
 

@@ -1,10 +1,12 @@
 // The block of 512 bytes that a suspended session is kept in: written, and read.
 ghost use mathlib.Core.Path.{_≡_};
+ghost use mathlib.Core.List.{_++_};
 ghost use Prim.Native.Nat.{_+_, _≤_};
 ghost use lib.ListN.{length};
 ghost use lib.Seq.{sets};
 ghost use Rattle.words.specs.Bytes.{littles, part};
 ghost use Rattle.cipher.specs.Machine.{registersOf};
+ghost use Rattle.digest.specs.Machine.{sumOf};
 ghost use Rattle.layout.specs.Block;
 ghost use Rattle.layout.specs.Block.{registers-bytes, registers-at, block-of};
 ghost use Rattle.suspended.specs.Machine.{suspendedOf};
@@ -67,23 +69,43 @@ pub fn get_state(s: &[u8], at: usize) -> State
     }
 }
 
+// The hash so far and the bytes not yet hashed, 32 bytes, at a place.
+pub fn put_held(out: &mut [u8], at: usize, d: Held)
+    requires { ⌜ at + 32 ≤ length (now out) ⌝ }
+    ensures { λ _. ⌜ now (out .exit) ≡ sets (now (out .entry)) at (sumOf d .hash ++ sumOf d .pending) ⌝ }
+{
+    let acc = d.acc;
+    let pending = d.pending;
+    let rest = words::load(&pending, 0);
+    words::store(out, at, ghash::to_block(acc));
+    words::store(out, at + 16, rest);
+}
+
+// And those that 32 bytes at a place list.
+pub fn get_held(s: &[u8], at: usize) -> Held
+    requires { ⌜ at + 32 ≤ length (now s) ⌝ }
+    ensures { λ r. ⌜ (sumOf r .hash ≡ part at 16 (now (s .entry))) × (sumOf r .pending ≡ part (at + 16) 16 (now (s .entry))) ⌝ }
+{
+    let acc = ghash::from_block(words::load(s, at));
+    let pending = words::to_bytes(words::load(s, at + 16));
+    Held {
+        acc: acc,
+        pending: pending,
+    }
+}
+
 // The block: zeros, then the fields, then the check.
 pub fn block_of(f: Suspended) -> [u8; 512]
     ensures { λ r. ⌜ r ≡ block-of (suspendedOf f) ⌝ }
 {
-    let held = f.held;
-    let acc = held.acc;
-    let pending = held.pending;
     let state = f.state;
-    let hash = ghash::to_block(acc);
-    let rest = words::load(&pending, 0);
+    let held = f.held;
     let mut block = [0u8; 512];
     block[0] = f.phase;
     fields::put(&mut block, 4, 4, f.ad);
     fields::put(&mut block, 8, 4, f.text);
     put_state(&mut block, 16, state);
-    words::store(&mut block, 128, hash);
-    words::store(&mut block, 144, rest);
+    put_held(&mut block, 128, held);
     let sum = fields::check(&block);
     fields::put(&mut block, 508, 4, sum as u64);
     block
@@ -98,12 +120,7 @@ pub fn read(block: &[u8]) -> Suspended
     let ad = fields::get(block, 4, 4);
     let text = fields::get(block, 8, 4);
     let state = get_state(block, 16);
-    let acc = ghash::from_block(words::load(block, 128));
-    let pending = words::to_bytes(words::load(block, 144));
-    let held = Held {
-        acc: acc,
-        pending: pending,
-    };
+    let held = get_held(block, 128);
     Suspended {
         phase: phase,
         ad: ad,

@@ -1,17 +1,13 @@
 -- What a refusal leaves and an accepted call gives, whatever the call, and how tests on lengths decide an answer.
-use mathlib.Core.Path.{_≡_, refl, ap, ap₂, _∙_}
+use mathlib.Core.Path.{_≡_, refl, ap, _∙_}
 use mathlib.Core.Bool.{Bool, true, false}
 use mathlib.Core.List.{List, [], _∷_, _++_}
-use Prim.Native.Nat.{ℕ, zero, suc, _+_, _≤_, _<_}
+use Prim.Native.Nat.{ℕ, zero, suc, _≤_, _<_}
 use native.Mathlib.Omega.{arith}
 use borrow.Author.Tests.{eq-eqb, ne-eqb, lt-ltb, le-ltb}
 use lib.Dec.{eqb}
-use lib.ListN.{length, drop, set, length-append}
-use lib.Seq.{sets}
+use lib.ListN.{length, drop, set}
 use Rattle.scope.specs.Refusals.{pick, granted}
-use Rattle.words.specs.Bytes.{little}
-use Rattle.words.proofs.Bytes.{little-long}
-use Rattle.words.proofs.Writing.{put-next, put-front}
 use Rattle.session.specs.Session.{Session}
 use Rattle.tulvekas.specs.Order.{next, room, buffer-after}
 use Rattle.tulvekas.specs.SessionBytes.{session-bytes, session-in, Leaves}
@@ -56,12 +52,6 @@ granted-again n a b = go (eqb n 0)
 pub set-first : (out : List ℕ) (b : ℕ) → 1 ≤ length out → set out 0 b ≡ (b ∷ []) ++ drop 1 out
 set-first [] b h = absurd (omega arith)
 set-first (x ∷ out) b h = refl
-
-pub put-iv : (out : List ℕ) (lo hi : ℕ) {o1 o2 : List ℕ} → 16 ≤ length out → o1 ≡ sets out 0 (little 8 lo) → o2 ≡ sets o1 8 (little 8 hi)
-    → o2 ≡ little 8 lo ++ little 8 hi ++ drop 16 out
-put-iv out lo hi h e1 e2 =
-    put-next out (little 8 lo) (little 8 hi) 0 8 (let l = little-long 8 lo in omega arith) e1 e2
-    ∙ put-front out (little 8 lo ++ little 8 hi) 16 (length-append (little 8 lo) (little 8 hi) ∙ ap₂ _+_ (little-long 8 lo) (little-long 8 hi)) h
 
 -- ---- the tests
 

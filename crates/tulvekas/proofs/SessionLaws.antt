@@ -6,7 +6,7 @@ use native.Mathlib.Nat.{mod-eq-of-lt}
 use native.Mathlib.Omega.{arith}
 use lib.ListN.{length, getD, drop}
 use lib.Seq.{sets}
-use Rattle.words.specs.Bytes.{little, number, Row, IsBlock, joined}
+use Rattle.words.specs.Bytes.{little, number, Row, joined}
 use Rattle.words.proofs.Rows.{row-append}
 use Rattle.words.proofs.Bytes.{little-long, little-row, number-little}
 use Rattle.words.proofs.Parts.{At, down, here}
@@ -123,12 +123,3 @@ module _ (s : Session) (g : Sized s) where
     session-stored e1 e2 e3 e4 e5 e6 =
         let e = put-session e1 e2 e3 e4 e5 e6 in
         record { bytes = e; lists = ap session-in e ∙ session-back (drop 216 out) }
-
--- ---- and its blocks, one behind the other
-
-module _ (out : List ℕ) (at : ℕ) {a : List ℕ} (row : IsBlock a) (b : List ℕ) {o1 o2 : List ℕ} (e1 : o1 ≡ sets out at a) (e2 : o2 ≡ sets o1 (at + 16) b) where
-  pub put-two : o2 ≡ sets out at (a ++ b)
-  put-two = put-next out a b at (at + 16) (let l = row .long in omega arith) e1 e2
-
-  pub put-three : IsBlock b → (c : List ℕ) {o3 : List ℕ} → o3 ≡ sets o2 (at + 32) c → o3 ≡ sets out at (a ++ b ++ c)
-  put-three row-b c e3 = put-next out (a ++ b) c at (at + 32) (let l = row-append 256 16 16 row row-b .long in omega arith) put-two e3

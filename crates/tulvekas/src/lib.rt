@@ -9,9 +9,7 @@ ghost use lib.Seq.{sets};
 ghost use Rattle.scope.specs.Refusals.{short-output};
 ghost use Rattle.words.specs.Machine.{bytesOf};
 ghost use Rattle.ghash.specs.Machine.{bytesOfElement};
-ghost use Rattle.start.specs.Start.{start-number};
 ghost use Rattle.start.specs.Machine.{modeOf};
-ghost use Rattle.digest.specs.Machine.{sumOf};
 ghost use Rattle.session.specs.Machine.{sessionOf};
 ghost use Rattle.page.specs.Calls.{seal-number, open-number, open-out};
 ghost use Rattle.retention.specs.Keeping.{keeping};
@@ -21,7 +19,6 @@ ghost use Rattle.tulvekas.specs.Pages.{seal-answer, seal-writes, seal-wr
 ghost use Rattle.tulvekas.specs.Sessions.{begin-answer, begin-leaves, data-answer, data-leaves, text-answer, text-leaves, text-writes, finish-answer, finish-leaves, finish-writes, suspend-answer, suspend-writes, resume-answer, resume-leaves, resume-writes};
 ghost use Rattle.tulvekas.specs.Cipher.{mode-named, keystream-answer, keystream-writes, trace-of-bytes, mode-byte, trace-answer, trace-iv, trace-sealed};
 ghost use Rattle.tulvekas.specs.Keeping.{kept-answer, kept-byte};
-use digest::Held;
 use ghash::Element;
 use retention::Verdict;
 use session::Session;
@@ -37,33 +34,17 @@ fn put_block(out: &mut [u8], b: [u8; 16])
     words::store(out, 0, words::load(&b, 0));
 }
 
-// The number of a start: 1 for the key's length, 2 for the IV's.
-fn lengths(key: &[u8], iv: &[u8]) -> u64
-    ensures { λ r. ⌜ r ≡ start-number (now (key .entry)) (now (iv .entry)) ⌝ }
-{
-    if key.len() != 32 {
-        return scope::KEY_LENGTH;
-    }
-    if iv.len() != 16 {
-        return scope::IV_LENGTH;
-    }
-    scope::ACCEPTED
-}
-
 // ---- whole pages
 
 // What a seal answers where there is no room for the tag, whatever its output.
 fn short_tag(key: &[u8], iv: &[u8], ad: &[u8], text: &[u8]) -> u64
     ensures { λ r. ⌜ ((out : List ℕ) → r ≡ next (seal-number (now (key .entry)) (now (iv .entry)) (now (ad .entry)) (now (text .entry)) out) short-output) ⌝ }
 {
-    let n = lengths(key, iv);
+    let n = start::lengths(key, iv);
     if n != 0 {
         return n;
     }
-    if ad.len() as u64 > scope::MOST_DATA {
-        return scope::TOO_LONG;
-    }
-    if text.len() as u64 > scope::MOST_TEXT {
+    if page::over_limit(ad, text) {
         return scope::TOO_LONG;
     }
     scope::SHORT_OUTPUT
@@ -124,18 +105,6 @@ fn put_drawn(out: &mut [u8], h: Element, pad: Block, current: Block)
     words::store(out, 168, current);
 }
 
-// The hash so far and the bytes not yet hashed, at theirs.
-fn put_held(out: &mut [u8], d: Held)
-    requires { ⌜ 216 ≤ length (now out) ⌝ }
-    ensures { λ _. ⌜ now (out .exit) ≡ sets (now (out .entry)) 184 (sumOf d .hash ++ sumOf d .pending) ⌝ }
-{
-    let acc = d.acc;
-    let pending = d.pending;
-    let rest = words::load(&pending, 0);
-    words::store(out, 184, ghash::to_block(acc));
-    words::store(out, 200, rest);
-}
-
 // A session's bytes to the front of a buffer.
 fn store_session(out: &mut [u8], s: Session)
     requires { ⌜ 216 ≤ length (now out) ⌝ }
@@ -151,7 +120,7 @@ fn store_session(out: &mut [u8], s: Session)
     fields::put(out, 16, 8, s.text);
     suspended::put_state(out, 24, state);
     put_drawn(out, h, pad, current);
-    put_held(out, held);
+    suspended::put_held(out, 184, held);
 }
 
 // And the session that bytes list, whatever they are.
@@ -166,12 +135,7 @@ fn load_session(b: &[u8]) -> Session
     let h = ghash::from_block(words::load(b, 136));
     let pad = words::load(b, 152);
     let current = words::load(b, 168);
-    let acc = ghash::from_block(words::load(b, 184));
-    let pending = words::to_bytes(words::load(b, 200));
-    let held = Held {
-        acc: acc,
-        pending: pending,
-    };
+    let held = suspended::get_held(b, 184);
     Session {
         phase: phase,
         ad: ad,
@@ -192,7 +156,7 @@ pub extern "C" fn tulvekas_begin(key: &[u8], iv: &[u8], session: &mut [u8]) -> u
     ensures answer { λ r. ⌜ r ≡ begin-answer (now (key .entry)) (now (iv .entry)) (now (session .entry)) ⌝ }
     ensures session { λ _. ⌜ begin-leaves (now (key .entry)) (now (iv .entry)) (now (session .entry)) (now (session .exit)) ⌝ }
 {
-    let n = lengths(key, iv);
+    let n = start::lengths(key, iv);
     if n != 0 {
         return n;
     }
@@ -331,7 +295,7 @@ pub extern "C" fn tulvekas_keystream(key: &[u8], iv: &[u8], sealed: u64, out: &m
     ensures answer { λ r. ⌜ r ≡ keystream-answer (now (key .entry)) (now (iv .entry)) (now (out .entry)) ⌝ }
     ensures out { λ _. ⌜ now (out .exit) ≡ keystream-writes (now (key .entry)) (now (iv .entry)) sealed (now (out .entry)) ⌝ }
 {
-    let n = lengths(key, iv);
+    let n = start::lengths(key, iv);
     if n != 0 {
         return n;
     }
@@ -387,8 +351,8 @@ pub extern "C" fn tulvekas_trace(
                 return scope::SHORT_OUTPUT;
             }
             let mode = o.mode;
-            fields::put(iv, 0, 8, o.lo);
-            fields::put(iv, 8, 8, o.hi);
+            let v = suspend::iv_bytes(o.lo, o.hi);
+            put_block(iv, v);
             sealed[0] = mode_number(mode);
             scope::ACCEPTED
         }

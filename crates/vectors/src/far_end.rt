@@ -10,7 +10,6 @@ use crate::keystream::LAST_PLAIN;
 use crate::keystream::LAST_SEALED;
 use crate::report;
 use crate::vector::run;
-use crate::vector::same;
 use cipher::State;
 use start::Mode;
 use words::Block;
@@ -50,7 +49,7 @@ fn last(out: &[u8], expected: Block)
     let z = words::load(out, 16 * 65537);
     report::text(b"last block made: ");
     report::block(z);
-    if same(z, expected) {
+    if words::same(z, expected) {
         report::text(b", agrees\n");
     } else {
         report::text(b", expected ");

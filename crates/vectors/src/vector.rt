@@ -21,10 +21,6 @@ fn name(p: Part) {
     }
 }
 
-pub fn same(x: Block, y: Block) -> bool {
-    (x.w0 == y.w0) & (x.w1 == y.w1) & (x.w2 == y.w2) & (x.w3 == y.w3)
-}
-
 fn difference(v: u64, p: Part, i: usize, got: Block, expected: Block) {
     report::text(b"SNOW-V ");
     report::number(v);
@@ -59,7 +55,7 @@ fn agreeing(v: u64, p: Part, got: &[u8], expected: &[u8], n: usize) -> u64
         let x = words::load(got, 16 * i);
         let y = words::load(expected, 16 * place(p, i, n));
         i += 1;
-        if same(x, y) {
+        if words::same(x, y) {
             agreed += 1;
         } else {
             difference(v, p, i, x, y);

@@ -70,7 +70,8 @@ pub fn same(x: Block, y: Block) -> bool
     (x.w0 == y.w0) & (x.w1 == y.w1) & (x.w2 == y.w2) & (x.w3 == y.w3)
 }
 
-fn wide(x: u8) -> u32
+// A byte as a word. A cast of an element of a slice would ask for its size.
+pub fn wide(x: u8) -> u32
     ensures { λ r. ⌜ (r ≡ x) × (r < 256) ⌝ }
 {
     x as u32

@@ -1,21 +1,17 @@
--- `cipher::low_half` meets its contract: each pair of cells is a word of the block.
+-- `cipher::low_half` meets its contract: the first eight cells.
 use mathlib.Core.Path.{_≡_, ap, _∙_}
 use lib.ListN.{length}
 use Rattle.words.specs.Bytes.{littles}
-use Rattle.words.specs.Machine.{bytesOf}
-use Rattle.cipher.proofs.Halves.{half-bytes, low-cells}
+use Rattle.cipher.proofs.Halves.{low-cells}
 use borrow.Author.Needs.{needs}
 use Rattle.cipher.proofs.low_half.Statement.{statement}
 use Rattle.cipher.proofs.low_half.Tie as tie
 
 returns : tie.Need-returns
-unfolding bytesOf
 returns c =
-    let l = c .before .before .before .before .args .t1 in
+    let l = c .before .args .t1 in
     let e : length l ≡ 16 = search needs in
-    half-bytes _ _ _ _ _ _ _ _ _ _ _ _ (c .before .before .before .pair .ensures) (c .before .before .pair2 .ensures) (c .before .pair3 .ensures)
-    (c .pair4 .ensures)
-    ∙ ap (littles 2) (low-cells l e)
+    c .eight .ensures ∙ ap (littles 2) (low-cells l e)
 
 pub low-half-spec : {M : Type 1} → statement M
 low-half-spec =
@@ -23,13 +19,10 @@ low-half-spec =
     (tie.spec
     (λ c. search needs)
     (λ c. search needs)
-    (λ c κs. search needs)
     (λ c. search needs)
     (λ c. search needs)
-    (λ c κs. search needs)
     (λ c. search needs)
     (λ c. search needs)
-    (λ c κs. search needs)
     (λ c. search needs)
     (λ c. search needs)
     (λ c κs. search needs)

@@ -61,6 +61,7 @@ get-spec =
     (λ c. search needs)
     (λ c. search needs)
     (λ c κs. search needs)
+    (λ c. search needs)
     add-n
     (λ c. search needs)
     loop-again

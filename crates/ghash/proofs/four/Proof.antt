@@ -12,7 +12,7 @@ returns c =
     let p2 = p3 .before .before .before in
     let p1 = p2 .before .before .before in
     let s = p1 .before .before .args in
-    four-stores (entries (now (s .t))) _ _ _ _ (s .i) (numberOf (s .w)) (p1 .put .ensures) (p2 .put2 .ensures) (p3 .put3 .ensures) (c .put4 .ensures)
+    four-stores (entries (now (s .table))) _ _ _ _ (s .i) (numberOf (s .w)) (p1 .put .ensures) (p2 .put2 .ensures) (p3 .put3 .ensures) (c .put4 .ensures)
     (p2 .before .xor .ensures) (p3 .before .xor2 .ensures) (c .before .xor3 .ensures)
 
 pub four-spec : {M : Type 1} → statement M

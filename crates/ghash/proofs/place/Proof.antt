@@ -24,7 +24,7 @@ returns c =
     let e2 = t2 .times-x2 .ensures in
     let e1 = t3 .times-x3 .ensures in (
       c .times-x4 .ensures ∙ ap timesX (e1 ∙ ap timesX (e2 ∙ ap timesX e4)),
-      placed (entries (now (a .t))) _ _ _ _ (a .p * 16) (numberOf (a .v)) e4 e2 e1 (x1 .xor .ensures) (f4 .before .xor2 .ensures) (f1 .four .ensures)
+      placed (entries (now (a .table))) _ _ _ _ (a .p * 16) (numberOf (a .v)) e4 e2 e1 (x1 .xor .ensures) (f4 .before .xor2 .ensures) (f1 .four .ensures)
           (f2 .four2 .ensures) (f3 .four3 .ensures) (f4 .four4 .ensures),
     )
 

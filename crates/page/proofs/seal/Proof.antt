@@ -6,6 +6,7 @@ use native.Mathlib.Omega.{arith}
 use lib.ListN.{length}
 use denote.Ref.{now}
 use Rattle.scope.specs.Limits.{most-data, most-text}
+use Rattle.start.proofs.Answers.{lengths-right}
 use Rattle.session.specs.Session.{Session}
 use Rattle.session.specs.Machine.{sessionOf}
 use Rattle.session.specs.Pieces.{tag-of}
@@ -13,57 +14,56 @@ use Rattle.page.proofs.Stages.{Stage.taking-data, Stage.taking-text, ph
 use Rattle.page.proofs.Tags.{tag-at}
 use Rattle.page.proofs.AtOnce.{begun-session, lent, told-session, closed-session, whole-session, whole-out}
 use Rattle.page.proofs.Answers.{seal-accepted, seal-writes, seal-gives}
-use Rattle.page.proofs.Refusing.{over-data, over-text, not-over, seal-key, seal-iv, seal-over, seal-short, seal-no-tag, seal-keeps}
+use Rattle.page.proofs.Refusing.{within, seal-start, seal-over, seal-short, seal-refused}
 use borrow.Author.Needs.{needs}
 use Rattle.page.proofs.seal.Statement.{statement}
 use Rattle.page.proofs.seal.Tie as tie
 
+-- ---- the lengths
+
+key-and-iv : (c : tie.Else1) → let a = c .before .before .before .before .before .before .before .args in (length (now (a .key)) ≡ 32) × (length (now (a .iv)) ≡ 16)
+key-and-iv c = let a = c .before .before .before .before .before .before .before .args in lengths-right (now (a .key)) (now (a .iv)) (sym (c .before .lengths .ensures) ∙ c .if1 .left)
+
+key-long : (c : tie.Else3) → length (now (c .before .before .before .before .before .before .before .before .before .before .args .key)) ≡ 32
+key-long c = key-and-iv (c .before .before .before) .0
+
+iv-long : (c : tie.Else3) → length (now (c .before .before .before .before .before .before .before .before .before .before .args .iv)) ≡ 16
+iv-long c = key-and-iv (c .before .before .before) .1
+
+limits : (c : tie.Else2) → let a = c .before .before .before .before .before .before .before .before .before .args in (length (now (a .ad)) ≤ most-data) × (length (now (a .text)) ≤ most-text)
+limits c = let a = c .before .before .before .before .before .before .before .before .before .args in within (now (a .ad)) (now (a .text)) (sym (c .before .over-limit .ensures) ∙ c .if2 .left)
+
+ad-fits : (c : tie.Else3) → length (now (c .before .before .before .before .before .before .before .before .before .before .args .ad)) ≤ most-data
+ad-fits c = limits (c .before) .0
+
+text-fits : (c : tie.Else3) → length (now (c .before .before .before .before .before .before .before .before .before .before .args .text)) ≤ most-text
+text-fits c = limits (c .before) .1
+
+room : (c : tie.Else3) → length (now (c .before .before .before .before .before .before .before .before .before .before .args .text)) ≤ length (now (c .before .before .before .before .before .before .before .before .before .before .args .out))
+room c = omega (arith, c .if3 .left)
+
+-- ---- refused
+
 returns : tie.Need-returns
 returns c =
-    let a = c .before .before .before .before .before .before .before .args in
-    let e = seal-key (now (a .key)) (now (a .iv)) (now (a .ad)) (now (a .text)) (now (a .out)) (c .before .if1 .taken) in
-    (c .refused .ensures .0 ∙ sym e, (c .refused .ensures .1 ∙ sym (seal-no-tag (now (a .key)) (now (a .iv)) (now (a .ad)) (now (a .text)) (now (a .out)) 0 e), sym (seal-keeps (now (a .key)) (now (a .iv)) (now (a .ad)) (now (a .text)) (now (a .out)) 0 e)))
+    let l = c .before .before in
+    let a = l .before .before .before .before .before .before .args in
+    seal-refused (now (a .key)) (now (a .iv)) (now (a .ad)) (now (a .text)) (now (a .out)) (seal-start (now (a .key)) (now (a .iv)) (now (a .ad)) (now (a .text)) (now (a .out)) (l .lengths .ensures) (c .before .if1 .taken)) (c .before .if1 .taken) (c .refused .ensures)
 
 returns-2 : tie.Need-returns-2
 returns-2 c =
-    let a = c .before .before .before .before .before .before .before .before .args in
-    let e = seal-iv (now (a .key)) (now (a .iv)) (now (a .ad)) (now (a .text)) (now (a .out)) (c .before .before .if1 .left) (c .before .if2 .taken) in
-    (c .refused2 .ensures .0 ∙ sym e, (c .refused2 .ensures .1 ∙ sym (seal-no-tag (now (a .key)) (now (a .iv)) (now (a .ad)) (now (a .text)) (now (a .out)) 1 e), sym (seal-keeps (now (a .key)) (now (a .iv)) (now (a .ad)) (now (a .text)) (now (a .out)) 1 e)))
+    let o = c .before .before in
+    let n = key-and-iv (o .before) in
+    let a = o .before .before .before .before .before .before .before .before .args in
+    seal-refused (now (a .key)) (now (a .iv)) (now (a .ad)) (now (a .text)) (now (a .out)) (seal-over (now (a .key)) (now (a .iv)) (now (a .ad)) (now (a .text)) (now (a .out)) (n .0) (n .1) (sym (o .over-limit .ensures) ∙ c .before .if2 .taken)) (λ z. omega arith) (c .refused2 .ensures)
 
 returns-3 : tie.Need-returns-3
 returns-3 c =
-    let a = c .before .before .before .before .before .before .before .before .before .args in
-    let e = seal-over (now (a .key)) (now (a .iv)) (now (a .ad)) (now (a .text)) (now (a .out)) (c .before .before .before .if1 .left) (c .before .before .if2 .left) (over-data (now (a .ad)) (now (a .text)) (omega arith)) in
-    (c .refused3 .ensures .0 ∙ sym e, (c .refused3 .ensures .1 ∙ sym (seal-no-tag (now (a .key)) (now (a .iv)) (now (a .ad)) (now (a .text)) (now (a .out)) 2 e), sym (seal-keeps (now (a .key)) (now (a .iv)) (now (a .ad)) (now (a .text)) (now (a .out)) 2 e)))
-
-returns-4 : tie.Need-returns-4
-returns-4 c =
-    let a = c .before .before .before .before .before .before .before .before .before .before .args in
-    let e = seal-over (now (a .key)) (now (a .iv)) (now (a .ad)) (now (a .text)) (now (a .out)) (c .before .before .before .before .if1 .left) (c .before .before .before .if2 .left) (over-text (now (a .ad)) (now (a .text)) (omega arith) (omega arith)) in
-    (c .refused4 .ensures .0 ∙ sym e, (c .refused4 .ensures .1 ∙ sym (seal-no-tag (now (a .key)) (now (a .iv)) (now (a .ad)) (now (a .text)) (now (a .out)) 2 e), sym (seal-keeps (now (a .key)) (now (a .iv)) (now (a .ad)) (now (a .text)) (now (a .out)) 2 e)))
-
-returns-5 : tie.Need-returns-5
-returns-5 c =
-    let a = c .before .before .before .before .before .before .before .before .before .before .before .args in
-    let e = seal-short (now (a .key)) (now (a .iv)) (now (a .ad)) (now (a .text)) (now (a .out)) (c .before .before .before .before .before .if1 .left) (c .before .before .before .before .if2 .left) (not-over (now (a .ad)) (now (a .text)) (omega arith) (omega arith)) (omega arith) in
-    (c .refused5 .ensures .0 ∙ sym e, (c .refused5 .ensures .1 ∙ sym (seal-no-tag (now (a .key)) (now (a .iv)) (now (a .ad)) (now (a .text)) (now (a .out)) 3 e), sym (seal-keeps (now (a .key)) (now (a .iv)) (now (a .ad)) (now (a .text)) (now (a .out)) 3 e)))
-
--- ---- once the lengths are in order
-
-key-long : (c : tie.Else5) → length (now (c .before .before .before .before .before .before .before .before .before .before .args .key)) ≡ 32
-key-long c = c .before .before .before .before .if1 .left
-
-iv-long : (c : tie.Else5) → length (now (c .before .before .before .before .before .before .before .before .before .before .args .iv)) ≡ 16
-iv-long c = c .before .before .before .if2 .left
-
-ad-fits : (c : tie.Else5) → length (now (c .before .before .before .before .before .before .before .before .before .before .args .ad)) ≤ most-data
-ad-fits c = omega (arith, c .before .before .if3 .left)
-
-text-fits : (c : tie.Else5) → length (now (c .before .before .before .before .before .before .before .before .before .before .args .text)) ≤ most-text
-text-fits c = omega (arith, c .before .if4 .left)
-
-room : (c : tie.Else5) → length (now (c .before .before .before .before .before .before .before .before .before .before .args .text)) ≤ length (now (c .before .before .before .before .before .before .before .before .before .before .args .out))
-room c = omega (arith, c .if5 .left)
+    let x = c .before .before in
+    let o = x .before in
+    let n = key-and-iv (o .before) in
+    let a = o .before .before .before .before .before .before .before .before .args in
+    seal-refused (now (a .key)) (now (a .iv)) (now (a .ad)) (now (a .text)) (now (a .out)) (seal-short (now (a .key)) (now (a .iv)) (now (a .ad)) (now (a .text)) (now (a .out)) (n .0) (n .1) (sym (o .over-limit .ensures) ∙ x .if2 .left) (omega (arith, c .before .if3 .taken))) (λ z. omega arith) (c .refused3 .ensures)
 
 -- ---- the session at each stage
 
@@ -87,7 +87,7 @@ data-with-requires c κs =
     let n : b .begin .result .session .ad ≡ 0 = ap (λ (s : Session). s .ad) e in (
       ap (λ (s : Session). s .phase) e,
       omega (arith, ad-fits (b .before)),
-      c .before .multiples .ensures,
+      c .before .fill .ensures,
     )
 
 text-with-requires : tie.Need-text-with-requires
@@ -100,7 +100,7 @@ text-with-requires c κs =
     let n : d .data-with .result .text ≡ 0 = ap (λ (s : Session). s .text) e in
     let t = text-fits (b .before) in (
       record { ordered = omega arith; read = omega arith; room = room (b .before); counts = omega arith },
-      lent (now (a .key)) (now (a .iv)) (taking-data []) (taking-data (now (a .ad))) (b .begin .result .session) (d .data-with .result) _ (begun b) e (d .before .before .multiples .ensures),
+      lent (now (a .key)) (now (a .iv)) (taking-data []) (taking-data (now (a .ad))) (b .begin .result .session) (d .data-with .result) _ (begun b) e (d .before .before .fill .ensures),
     )
 
 tag-with-requires : tie.Need-tag-with-requires
@@ -108,10 +108,10 @@ tag-with-requires c κs =
     let w = c .before .before .before in
     let b = w .before .before .before .before .before .before .before .before .before in
     let a = b .before .before .before .before .before .before .before .before .before .before .before .args in
-    lent (now (a .key)) (now (a .iv)) (taking-data []) (taking-text (now (a .ad)) (now (a .text))) (b .begin .result .session) (w .text-with .result) _ (begun b) (whole w) (w .before .before .before .before .before .multiples .ensures)
+    lent (now (a .key)) (now (a .iv)) (taking-data []) (taking-text (now (a .ad)) (now (a .text))) (b .begin .result .session) (w .text-with .result) _ (begun b) (whole w) (w .before .before .before .before .before .fill .ensures)
 
-returns-6 : tie.Need-returns-6
-returns-6 c =
+returns-4 : tie.Need-returns-4
+returns-4 c =
     let w = c .before .before .before .before .before in
     let o = w .before .before .before .before .before .before .before .before .before .before in
     let a = o .before .before .before .before .before .before .before .before .before .before .args in
@@ -134,15 +134,13 @@ seal-spec =
     tie.close
     (tie.spec
     (λ c κs. search needs)
+    (λ c κs. search needs)
     returns
+    (λ c κs. search needs)
     (λ c κs. search needs)
     returns-2
     (λ c κs. search needs)
     returns-3
-    (λ c κs. search needs)
-    returns-4
-    (λ c κs. search needs)
-    returns-5
     (λ c κs. search needs)
     (λ c κs. search needs)
     data-with-requires
@@ -150,4 +148,4 @@ seal-spec =
     tag-with-requires
     (λ c κs. search needs)
     (λ c. search needs)
-    returns-6)
+    returns-4)

@@ -2,21 +2,13 @@
 use mathlib.Core.Path.{ap, _∙_}
 use lib.ListN.{length}
 use denote.Ref.{now}
-use Rattle.ghash.proofs.Elements.{Halves}
 use Rattle.digest.specs.Sum.{Sum}
 use Rattle.session.specs.Pieces.{tag-of}
-use Rattle.session.proofs.Made.{by-number}
 use Rattle.session.specs.Machine.{sessionOf}
 use Rattle.page.specs.Inner.{in-text, tag-over}
 use borrow.Author.Needs.{needs}
 use Rattle.page.proofs.tag_over.Statement.{statement}
 use Rattle.page.proofs.tag_over.Tie as tie
-
-halves : (c : tie.Start) → Halves (c .args .s .h)
-halves c = record { in-hi = search needs; in-lo = search needs }
-
-absorb-with-requires : tie.Need-absorb-with-requires
-absorb-with-requires c κs = let start = c .before .before .before in by-number (start .args .s .h) _ (halves start) (start .pre)
 
 returns : tie.Need-returns
 unfolding tag-over
@@ -26,4 +18,4 @@ returns c =
     c .tag-with .ensures ∙ ap (λ (m : Sum). tag-of (in-text s (length (now (a .cipher))) m)) (c .before .absorb-with .ensures)
 
 pub tag-over-spec : {M : Type 1} → statement M
-tag-over-spec = tie.close (tie.spec absorb-with-requires (λ c κs. search needs) returns)
+tag-over-spec = tie.close (tie.spec (λ c κs. c .before .before .before .pre) (λ c κs. search needs) returns)

@@ -1,4 +1,4 @@
--- `session::tag` meets its contract: `tag_with`, with the table made.
+-- `session::tag` meets its contract: `lent::tag_with`, with the table made.
 use mathlib.Core.Path.{_∙_}
 use borrow.Author.Needs.{needs}
 use Rattle.session.proofs.tag.Statement.{statement}

@@ -1,5 +1,5 @@
 -- `session::take_text` meets its contract: where no block is filled the data are closed and the piece goes the short way, and else it is
--- `text_with` with the table made.
+-- `lent::text_with` with the table made.
 use native.Mathlib.Omega.{arith}
 use borrow.Author.Needs.{needs}
 use denote.Ref.{now}

@@ -1,39 +1,48 @@
 -- `start::start` meets its contract, by the lengths of key and IV.
-use Prim.Native.Nat.{ℕ}
-use mathlib.Core.Path.{sym, ap, ap₂, _∙_}
+use mathlib.Core.Path.{_≡_, sym, ap₂, _∙_}
 use mathlib.Core.List.{List}
+use Prim.Native.Nat.{ℕ}
+use native.Mathlib.Omega.{arith}
+use borrow.Author.Tests.{eq-eqb, ne-eqb}
+use lib.ListN.{length}
 use denote.Ref.{now}
 use Rattle.scope.specs.Refusals.{granted}
-use Rattle.start.specs.Start.{start, blank}
-use Rattle.start.proofs.Answers.{bad-key, bad-iv, both-right, key-whole, iv-whole}
+use Rattle.cipher.specs.Registers.{Registers}
+use Rattle.start.specs.Start.{start}
+use Rattle.start.proofs.Answers.{lengths-right, key-whole, iv-whole}
 use Rattle.start.specs.Machine.{modeOf}
 use borrow.Author.Needs.{needs}
 use Rattle.start.proofs.start.Statement.{statement}
 use Rattle.start.proofs.start.Tie as tie
 
+refuses : (n : ℕ) (a b : Registers) → ¬ (n ≡ 0) → b ≡ granted n a b
+refuses n a b h = rw (ne-eqb n 0 h)
+
+grants : (n : ℕ) (a b : Registers) → n ≡ 0 → a ≡ granted n a b
+grants n a b h = rw (eq-eqb n 0 h)
+
+right : (c : tie.Else1) → let a = c .before .before .before .before .args in (length (now (a .key)) ≡ 32) × (length (now (a .iv)) ≡ 16)
+right c =
+    let a = c .before .before .before .before .args in lengths-right (now (a .key)) (now (a .iv)) (sym (c .before .lengths .ensures) ∙ c .if1 .left)
+
 returns : tie.Need-returns
 returns c =
-    let a = c .before .before .before .before .args in
-    let e = bad-key (now (a .key)) (now (a .iv)) (c .before .if1 .taken) in
-    record { number = sym e; state = c .blank-state .ensures ∙ sym (ap (λ (n : ℕ). granted n (start (now (a .key)) (now (a .iv)) (modeOf (a .mode))) blank) e) }
+    let l = c .before .before in
+    record { number = l .lengths .ensures; state = c .blank-state .ensures ∙ refuses _ _ _ (λ z. c .before .if1 .taken (l .lengths .ensures ∙ z)) }
 
 returns-2 : tie.Need-returns-2
 returns-2 c =
-    let a = c .before .before .before .before .before .args in
-    let e = bad-iv (now (a .key)) (now (a .iv)) (c .before .before .if1 .left) (c .before .if2 .taken) in
-    record { number = sym e; state = c .blank-state2 .ensures ∙ sym (ap (λ (n : ℕ). granted n (start (now (a .key)) (now (a .iv)) (modeOf (a .mode))) blank) e) }
-
-returns-3 : tie.Need-returns-3
-returns-3 c =
-    let a = c .before .before .before .before .before .before .before .before .args in
-    let lk = c .before .before .before .before .before .if1 .left in
-    let li = c .before .before .before .before .if2 .left in
-    let e = both-right (now (a .key)) (now (a .iv)) lk li in
+    let l3 = c .before in
+    let l2 = l3 .before in
+    let o = l2 .before .before in
+    let a = o .before .before .before .before .args in
+    let n = sym (o .before .lengths .ensures) ∙ o .if1 .left in
     record {
-      number = sym e;
+      number = sym n;
       state = c .sixteen-steps .ensures
-          ∙ ap₂ (λ (k v : List ℕ). start k v (modeOf (a .mode))) (key-whole (now (a .key)) _ _ lk (c .before .before .before .load .ensures) (c .before .before .load2 .ensures)) (iv-whole (now (a .iv)) _ li (c .before .load3 .ensures))
-          ∙ sym (ap (λ (n : ℕ). granted n (start (now (a .key)) (now (a .iv)) (modeOf (a .mode))) blank) e);
+          ∙ ap₂ (λ (k v : List ℕ). start k v (modeOf (a .mode))) (key-whole (now (a .key)) _ _ (right o .0) (l2 .before .load .ensures) (l2 .load2 .ensures))
+          (iv-whole (now (a .iv)) _ (right o .1) (l3 .load3 .ensures))
+          ∙ grants _ _ _ n;
     }
 
 pub start-spec : {M : Type 1} → statement M
@@ -41,11 +50,10 @@ start-spec =
     tie.close
     (tie.spec
     (λ c κs. search needs)
+    (λ c κs. search needs)
     returns
+    (λ c κs. let r = right c in omega arith)
+    (λ c κs. let r = right (c .before) in omega arith)
+    (λ c κs. let r = right (c .before .before) in omega arith)
     (λ c κs. search needs)
-    returns-2
-    (λ c κs. search needs)
-    (λ c κs. search needs)
-    (λ c κs. search needs)
-    (λ c κs. search needs)
-    returns-3)
+    returns-2)

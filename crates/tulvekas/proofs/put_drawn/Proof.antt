@@ -5,7 +5,7 @@ use denote.Ref.{now}
 use Rattle.words.specs.Machine.{bytesOf}
 use Rattle.words.proofs.Blocks.{bytesOf-block}
 use Rattle.ghash.proofs.Elements.{element-block}
-use Rattle.tulvekas.proofs.SessionLaws.{put-three}
+use Rattle.suspended.proofs.Placing.{put-three}
 use borrow.Author.Needs.{needs}
 use Rattle.tulvekas.proofs.put_drawn.Statement.{statement}
 use Rattle.tulvekas.proofs.put_drawn.Tie as tie

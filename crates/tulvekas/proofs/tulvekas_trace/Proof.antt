@@ -1,7 +1,9 @@
 -- `tulvekas::tulvekas_trace` meets its contract, by the lengths and the answer of the trace.
 use mathlib.Core.Path.{_≡_, sym, ap, _∙_}
+use mathlib.Core.List.{List, _++_}
+use Prim.Native.Nat.{ℕ}
 use native.Mathlib.Omega.{arith}
-use lib.ListN.{set}
+use lib.ListN.{set, drop}
 use lib.Seq.{take-all}
 use denote.Ref.{now}
 use Rattle.cipher.specs.Registers.{Registers}
@@ -9,7 +11,7 @@ use Rattle.start.specs.Trace.{trace}
 use Rattle.start.specs.Machine.{modeOf, tracedOf}
 use Rattle.layout.specs.Block.{registers-at}
 use Rattle.tulvekas.specs.Cipher.{trace-of-bytes, mode-byte}
-use Rattle.tulvekas.proofs.Answering.{set-first, put-iv}
+use Rattle.tulvekas.proofs.Answering.{set-first}
 use Rattle.tulvekas.proofs.CipherAnswers.{trace-bad-key, trace-bad-state, trace-walks, told-refused, told-short-iv, told-short-sealed, told-found}
 use borrow.Author.Needs.{needs}
 use Rattle.tulvekas.proofs.tulvekas_trace.Statement.{statement}
@@ -65,15 +67,15 @@ returns-5 c =
 returns-6 : tie.Need-returns-6
 returns-6 c =
     let p2 = c .before .before .before in
-    let p1 = p2 .before .before .before .before in
-    let y = p1 .before .before in
+    let p1 = p2 .before .before in
+    let y = p1 .before in
     let o = y .before .before .before in
     let x = o .t2 .given in
     let t = o .before .before in
     let a = t .before .before .before .before .before .before .before .before .args in
     let b = mode-byte (modeOf (x .0 .0 .mode)) in
     told-found (now (a .iv)) (now (a .sealed)) _ _ (sym (walked t) ∙ ap tracedOf (x .1)) (y .before .if3 .left) (y .if4 .left)
-    (put-iv (now (a .iv)) _ _ (y .before .if3 .left) (p1 .put .ensures) (p2 .put2 .ensures))
+    (p2 .put-block .ensures ∙ ap (λ (l : List ℕ). l ++ drop 16 (now (a .iv))) (p1 .iv-bytes .ensures))
     (ap (set (now (a .sealed)) 0) (c .mode-number .ensures) ∙ set-first (now (a .sealed)) b (y .if4 .left))
 
 pub tulvekas-trace-spec : {M : Type 1} → statement M

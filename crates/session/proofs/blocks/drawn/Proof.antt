@@ -1,0 +1,32 @@
+-- `session::blocks::drawn` meets its contract, by the place of the next byte.
+use borrow.Author.Needs.{needs}
+use mathlib.Core.Path.{sym, _∙_}
+use native.Mathlib.Omega.{arith}
+use Rattle.cipher.specs.Run.{move, made}
+use Rattle.session.specs.Machine.{sessionOf}
+use Rattle.session.proofs.Within.{ready-inside, ready-start}
+use Rattle.session.proofs.blocks.drawn.Statement.{statement}
+use Rattle.session.proofs.blocks.drawn.Tie as tie
+
+returns : tie.Need-returns
+returns c = sym (ready-inside (sessionOf (c .before .before .args .s)) (c .if1 .taken))
+
+returns-2 : tie.Need-returns-2
+unfolding move made
+returns-2 c =
+    let s = c .before .before .before .before .before .before .args .s in
+    let f = c .before .before .forward .ensures in
+    (λ i. record {
+      phase = s .phase;
+      ad = s .ad;
+      text = s .text;
+      registers = f .state i;
+      h = sessionOf s .h;
+      pad = sessionOf s .pad;
+      current = f .z i;
+      sum = sessionOf s .sum;
+    })
+    ∙ sym (ready-start (sessionOf s) (omega (arith, c .before .before .before .before .if1 .left)))
+
+pub drawn-spec : {M : Type 1} → statement M
+drawn-spec = tie.close (tie.spec returns (λ c κs. search needs) returns-2)
