@@ -5,4 +5,5 @@ pub mod Typed
 pub mod Running
 pub mod LentAgain
 pub mod FrontPart
+pub mod PartHanded
 pub mod StepsBack

@@ -1,16 +1,16 @@
 -- What the loop of a run has made after i turns, and the three answers of a run.
 use mathlib.Core.Path.{_≡_, refl, sym, ap, ap₂, subst, _∙_}
-use mathlib.Core.Bool.{Bool, false}
+use mathlib.Core.Bool.{Bool, true, false}
 use mathlib.Core.List.{List, [], _++_}
 use Prim.Native.Nat.{ℕ, _+_, _*_, _-_, _≤_, _<_, zero-le}
 use native.Mathlib.Omega.{arith}
 use native.Mathlib.Numerals.{add-one}
-use lib.Dec.{eqb}
+use lib.Dec.{eqb, ltb}
 use lib.ListN.{length, take, drop, length-append, length-drop}
 use lib.Seq.{take-at, drop-at, drop-drop, sets, sets-eq}
-use borrow.Author.Tests.{lt-ltb, le-ltb}
+use borrow.Author.Tests.{lt-ltb, le-ltb, ltb-false}
 use Rattle.scope.specs.Limits.{most-blocks}
-use Rattle.scope.specs.Refusals.{pick}
+use Rattle.scope.specs.Refusals.{pick, granted, refuse}
 use Rattle.cipher.specs.Registers.{Registers, IsRegisters}
 use Rattle.cipher.specs.Run.{move, made, moves, zs, blocks, run-number, run-registers, run-part}
 use Rattle.cipher.proofs.Moves.{made-block, moves-good, blocks-more, blocks-length}
@@ -88,3 +88,19 @@ module _ (d : Bool) (s : Registers) (xs : List ℕ) (n : ℕ) where
       let e = number-zero h r in
       subst (λ (b : Bool). (t ≡ pick b (moves d n s) s) × ((16 * n ≡ length (pick b (blocks d n s) [])) × ((0 ≡ run-number (length xs) n) × (out ≡ pick b (blocks d n s) [] ++ drop (16 * n) xs))))
       (sym (ap (λ (a : ℕ). eqb a 0) e)) (m .state, (sym (blocks-length d n s g), (sym e, m .written)))
+
+  -- of an output no longer than the blocks the part is all or nothing
+  abbrev All-or-none : List ℕ → Type 0
+  All-or-none part = (length part ≤ length xs) × (length part < length xs → length part ≡ 0)
+
+  pub all-or-none : IsRegisters s → length xs ≤ 16 * n → All-or-none (run-part d s (length xs) n)
+  unfolding run-part run-number
+  all-or-none g h = go (ltb most-blocks n) (ltb (length xs) (16 * n)) (λ e. ltb-false (length xs) (16 * n) e)
+    where
+      go : (much short : Bool) → (short ≡ false → 16 * n ≤ length xs) → All-or-none (granted (refuse much 9 (refuse short 4 0)) (blocks d n s) [])
+      go true short f = (zero-le, λ _. refl)
+      go false true f = (zero-le, λ _. refl)
+      go false false f =
+          let k : length (blocks d n s) ≡ 16 * n = blocks-length d n s g in
+          let m : 16 * n ≤ length xs = f refl in
+          (omega arith, λ l. absurd (omega arith))

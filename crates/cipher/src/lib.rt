@@ -16,7 +16,7 @@ ghost use Rattle.cipher.specs.Back;
 ghost use Rattle.cipher.specs.Run.{forward, backward, move, made, run-number, run-registers, run-part};
 ghost use Rattle.cipher.specs.Machine.{registersOf, Moves, Steps};
 ghost use Rattle.cipher.specs.Inner.{box};
-ghost use Rattle.cipher.specs.Lent.{rest-stays};
+ghost use Rattle.cipher.specs.Lent.{front-of};
 use lfsr::Lfsr;
 use words::Block;
 
@@ -264,7 +264,8 @@ pub fn run_core(s: State, answer: &mut u64, out: &mut [u8], n: usize, back: bool
     }
 }
 
-// The same with the state lent; the part of the output that holds the blocks comes back, empty on a refusal.
+// The same with the state lent; the part of the output that holds the blocks comes back, empty on a refusal. Where they fill the output it is
+// the output itself.
 pub fn run<'a>(
     s: &mut State,
     answer: &mut u64,
@@ -275,7 +276,7 @@ pub fn run<'a>(
     ensures state { λ _. ⌜ registersOf (now (s .exit)) ≡ run-registers back (registersOf (now (s .entry))) (length (now (out .entry))) n ⌝ }
     ensures answer { λ _. ⌜ now (answer .exit) ≡ run-number (length (now (out .entry))) n ⌝ }
     ensures part { λ r. ⌜ (ptr r ≡ ptr (out .entry)) × (now r ≡ run-part back (registersOf (now (s .entry))) (length (now (out .entry))) n) ⌝ }
-    ensures rest { λ r. rest-stays 𝓤 A (out .entry) (length (now r)) (drop (length (now r)) (now (out .entry))) }
+    ensures rest { λ r. front-of 𝓤 A (out .entry) r (drop (length (now r)) (now (out .entry))) }
 {
     let t = run_core(*s, answer, out, n, back);
     *s = t.state;

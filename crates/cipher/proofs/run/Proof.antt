@@ -1,6 +1,6 @@
 -- A walk of the MIR. The state's borrow is opened and the state copied out; the answer goes to `run_core` for good, at its own lifetime; the
--- output is lent again to it for a lifetime of the call and comes back (`LentAgain`), and its first elements are handed out, with what the
--- others end as (`FrontPart`); the state that came back is stored behind the borrow, which is closed at it.
+-- output is lent again to it for a lifetime of the call and comes back (`LentAgain`), and its front part is handed out, with what it ends as
+-- (`PartHanded`); the state that came back is stored behind the borrow, which is closed at it.
 use mathlib.Core.Path.{_≡_, refl, sym, ap, subst, _∙_}
 use Prim.Native.Nat.{ℕ, _<_, _^_}
 use mathlib.Core.Bool.{Bool}
@@ -47,6 +47,7 @@ use denote.Exit.{yes, no}
 use Rattle.cipher.specs.Registers.{Registers}
 use Rattle.cipher.specs.Run.{run-number, run-registers, run-part}
 use Rattle.cipher.specs.Machine.{registersOf}
+use Rattle.cipher.specs.Lent.{front-of}
 use Rattle.cipher.specs.declared.State.{State}
 use Rattle.cipher.specs.declared.Ran.{Ran}
 use Rattle.cipher.proofs.State as T
@@ -54,7 +55,7 @@ use Rattle.cipher.proofs.State.Laws as T′
 use Rattle.cipher.proofs.Ran as P
 use Rattle.cipher.proofs.Ran.Laws as P′
 use Rattle.cipher.proofs.LentAgain.{LentAgain, lends-again, comes-back}
-use Rattle.cipher.proofs.FrontPart.{Kept, hands-front}
+use Rattle.cipher.proofs.PartHanded.{hands-part}
 use Rattle.cipher.proofs.run_core as core
 use Rattle.cipher.proofs.run_core.Symbol as core-def
 use Rattle.cipher.proofs.run_core.Symbol.{name as #cipher·run-core}
@@ -120,12 +121,12 @@ module _ {M : Type 1} (𝓤 : URA M) (H : Heap 𝓤) (A : Atoms 𝓤) (W : Given
   abbrev rest : List ℕ
   rest = drop-list (length part) xs
 
-  -- what the part that is handed out owns, and what the output's name ends as
+  -- what the part that is handed out owns, and what ties the output's name to it
   abbrev Part : GName → Fml
   Part γ′ = MutSlice (named 2) κ₂ u8 .own (out-at γ′ part) (sliceVal (b₂, o₂) (length part) ∷ [])
 
-  abbrev Rest : SProp 𝓤
-  Rest = Kept 𝓤 A u8 γ₂ (length part) rest
+  abbrev Rest : GName → SProp 𝓤
+  Rest γ′ = front-of 𝓤 A (out-at γ₂ xs) (out-at γ′ part) rest
 
   -- what `run_core`'s triple binds outside: the answer at its own lifetime, the output lent again for the lifetime ν, under the name δ
   abbrev to-core : ℕ → GName → Core 𝓤 H A at-mem run .Ghost
@@ -161,9 +162,9 @@ module _ {M : Type 1} (𝓤 : URA M) (H : Heap 𝓤) (A : Atoms 𝓤) (W : Given
   typed d is = LL.lawful T.the-type T′.the-laws 𝓤 H A W .typed d _ is .0
 
   -- the clauses of `ensures` at the last state g and the last answer w, and what the types own at exit
-  abbrev Ensured : State → ℕ → SProp 𝓤
-  Ensured g w = sep 𝓤 (fact 𝓤 (registersOf g ≡ registers)) (sep 𝓤 (fact 𝓤 (w ≡ number))
-      (sep 𝓤 (fact 𝓤 ((_≡_ {A = ℕ × ℕ} (b₂, o₂) (b₂, o₂)) × (part ≡ part))) Rest))
+  abbrev Ensured : State → ℕ → GName → SProp 𝓤
+  Ensured g w γ′ = sep 𝓤 (fact 𝓤 (registersOf g ≡ registers)) (sep 𝓤 (fact 𝓤 (w ≡ number))
+      (sep 𝓤 (fact 𝓤 ((_≡_ {A = ℕ × ℕ} (b₂, o₂) (b₂, o₂)) × (part ≡ part))) (Rest γ′)))
 
   abbrev OnExit : State → ℕ → GName → SProp 𝓤
   OnExit g w γ′ = onExit 𝓤 H A run′.ended stayed (κ₀, (κ₁, (κ₂, tt))) (q₀, (q₁, (q₂, tt))) at (sliceVal (b₂, o₂) (length part)) (out-at γ′ part) x
@@ -172,14 +173,14 @@ module _ {M : Type 1} (𝓤 : URA M) (H : Heap 𝓤) (A : Atoms 𝓤) (W : Given
   -- what is had once the locals are gone
   abbrev Left : State → ℕ → GName → List (Item 𝓤)
   Left g w γ′ = ‵ (fobs γ₀ (T.the-row .coded .code g)) ∷ ‵ (fbor κ₀ (Body (mem T.the-row) b₀ o₀ γ₀)) ∷ ‵ (flft κ₀ q₀) ∷ ‵ (Part γ′) ∷
-      (‵ (flft κ₂ q₂) ⊛ raw Rest) ∷ ‵ (flft κ₁ q₁) ∷ ‵ (fres γ₁ (u64 .coded .code w)) ∷ []
+      (‵ (flft κ₂ q₂) ⊛ raw (Rest γ′)) ∷ ‵ (flft κ₁ q₁) ∷ ‵ (fres γ₁ (u64 .coded .code w)) ∷ []
 
   exits : (g : State) (w : ℕ) (γ′ : GName) (k : ℕ) → k ≡ length part → registersOf g ≡ registers → w ≡ number
       → ent 𝓤 (⋆ 𝓤 H A (Left g w γ′)) (Post (sliceVal (b₂, o₂) k))
   exits g w γ′ k ek eg ew =
       subst (λ (j : ℕ). ent 𝓤 (⋆ 𝓤 H A (Left g w γ′)) (Post (sliceVal (b₂, o₂) j))) (sym ek)
-      (qed W (Left g w γ′) ∵ suffices ! (sep 𝓤 (Ensured g w) (OnExit g w γ′))
-      (via 𝓤 (sep 𝓤 (OnExit g w γ′) (Ensured g w)) (comm∗ 𝓤 (Ensured g w) (OnExit g w γ′))
+      (qed W (Left g w γ′) ∵ suffices ! (sep 𝓤 (Ensured g w γ′) (OnExit g w γ′))
+      (via 𝓤 (sep 𝓤 (OnExit g w γ′) (Ensured g w γ′)) (comm∗ 𝓤 (Ensured g w γ′) (OnExit g w γ′))
       (ends-at 𝓤 H A run′.ended stayed (run′.clauses 𝓤 H A at-mem run) W bound (sliceVal (b₂, o₂) (length part)) (out-at γ′ part)
       (g, (w, (tt, (tt, (tt, tt))))) (tt, (tt, (tt, (tt, (tt, tt))))))) $
       move ! (4 ∷ []) $ split ! $ move ! (1 ∷ []) $
@@ -256,8 +257,8 @@ module _ {M : Type 1} (𝓤 : URA M) (H : Heap 𝓤) (A : Atoms 𝓤) (W : Given
         split ! $ move ! (1 ∷ []) $ split ! $ lft-end ! tt $ move ! (0 ∷ 5 ∷ 3 ∷ []) $
         use3 W (later (‵ (MutSlice (named 2) κ₂ u8 .own (out-at γ₂ (ws .1 .1 .0)) (s ∷ [])) ⊛ ‵ (flft κ₂ q₂)))
         (comes-back u8 κ₂ (ν ∷ []) q₂ γ₂ b₂ o₂ 𝓤 H A W (named 2) (named 1) xs δ (ws .1 .1 .0) room l) $ await ! tt $
-        use1 W (later (some (λ (γ′ : GName). ‵ (Part γ′) ⊛ ‵ (flft κ₂ q₂) ⊛ raw Rest)))
-        (hands-front u8 𝓤 H A W (named 2) κ₂ q₂ b₂ o₂ γ₂ (s ∷ []) part rest (ws .1 .1 .0) (e₄ ∙ ap (λ (k : ℕ). part ++ drop-list k xs) e₂)) $ await ! tt $
+        use1 W (later (some (λ (γ′ : GName). ‵ (Part γ′) ⊛ ‵ (flft κ₂ q₂) ⊛ raw (Rest γ′))))
+        (hands-part 𝓤 H A W (named 2) κ₂ q₂ b₂ o₂ γ₂ (s ∷ []) part rest (ws .1 .1 .0) xs (e₄ ∙ ap (λ (k : ℕ). part ++ drop-list k xs) e₂)) $ await ! tt $
         pick ! (λ γ′. split ! $
         -- [what the part owns; the output's token, with what its others end as; true; the answer's token; its last value; the state's cell;
         --  the open borrow; obs; auth; local i at 33 - 2 i; …; true]
