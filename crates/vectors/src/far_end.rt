@@ -8,8 +8,8 @@ use crate::keystream::KEY_3;
 use crate::keystream::KEYSTREAM_3;
 use crate::keystream::LAST_PLAIN;
 use crate::keystream::LAST_SEALED;
+use crate::lent;
 use crate::report;
-use crate::vector::run;
 use cipher::State;
 use start::Mode;
 use words::Block;
@@ -29,17 +29,21 @@ fn way(back: bool) {
     }
 }
 
-// A run, with a line for its answer. The number lent is none that a run answers with.
+// A run, with a line for its answer and the length of the part that it hands back. The number lent is none that a run answers with.
 fn reported(s: State, out: &mut [u8], n: usize, back: bool) -> State
+    requires { ⌜ length (now out) ≤ 16 * n ⌝ }
     ensures { λ _. ⌜ length (now (out .exit)) ≡ length (now (out .entry)) ⌝ }
 {
     let mut answer: u64 = 255;
-    let t = run(s, &mut answer, out, n, back);
+    let r = lent::run(s, &mut answer, out, n, back);
     way(back);
     report::number(n as u64);
     report::text(b": ");
     report::answer(answer);
-    t
+    report::text(b", part of ");
+    report::number(r.wrote as u64);
+    report::text(b" bytes\n");
+    r.state
 }
 
 // The last of 65,538 blocks in an output.
@@ -60,7 +64,7 @@ fn last(out: &[u8], expected: Block)
 
 // As far as a run goes, and a block more, which leaves the state as it is.
 fn farthest(s: State, out: &mut [u8], back: bool, expected: Block) -> State
-    requires { ⌜ 16 * 65538 ≤ length (now out) ⌝ }
+    requires { ⌜ length (now out) ≡ 16 * 65538 ⌝ }
     ensures { λ _. ⌜ length (now (out .exit)) ≡ length (now (out .entry)) ⌝ }
 {
     let t = reported(s, out, 65538, back);

@@ -2,6 +2,7 @@
 // `stdout` has what it must write.
 mod far_end;
 mod keystream;
+mod lent;
 mod report;
 mod vector;
 

@@ -48,13 +48,12 @@ pub fn mode(m: Mode) {
 fn refused(n: u64) {
     text(b"refused ");
     number(n);
-    text(b"\n");
 }
 
 // The number that a run answers with.
 pub fn answer(n: u64) {
     if n == 0 {
-        text(b"accepted\n");
+        text(b"accepted");
     } else {
         refused(n);
     }
@@ -67,7 +66,6 @@ fn origin(o: Origin) {
     text(b", ");
     let m = o.mode;
     mode(m);
-    text(b"\n");
 }
 
 pub fn traced(t: Traced) {
@@ -75,4 +73,5 @@ pub fn traced(t: Traced) {
         Traced::Found(o) => origin(o),
         Traced::Refused(n) => refused(n),
     }
+    text(b"\n");
 }

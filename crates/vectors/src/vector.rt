@@ -2,8 +2,10 @@
 ghost use mathlib.Core.Path.{_≡_};
 ghost use Prim.Native.Nat.{_*_, _≤_, _<_};
 ghost use lib.ListN.{length};
+use crate::lent;
 use crate::report;
 use cipher::State;
+use cipher::Stepped;
 use start::Mode;
 use words::Block;
 
@@ -98,17 +100,60 @@ fn tally(agreed: u64, of: u64) {
     report::number(of);
 }
 
-// A run, which leaves the output as long as it was.
-pub fn run(s: State, answer: &mut u64, out: &mut [u8], n: usize, back: bool) -> State
-    ensures { λ _. ⌜ length (now (out .exit)) ≡ length (now (out .entry)) ⌝ }
-{
-    let w = cipher::run_core(s, answer, out, n, back);
-    w.state
-}
-
 fn started(key: [u8; 32], iv: [u8; 16]) -> State {
     let t = start::start(&key, &iv, Mode::Plain);
     t.state
+}
+
+// Eight blocks by a run that fills the output.
+fn run(s: State, out: &mut [u8], back: bool) -> State
+    requires { ⌜ length (now out) ≡ 128 ⌝ }
+    ensures { λ _. ⌜ length (now (out .exit)) ≡ length (now (out .entry)) ⌝ }
+{
+    let mut answer: u64 = 0;
+    let r = lent::run(s, &mut answer, out, 8, back);
+    r.state
+}
+
+// One step either way: forward the state is lent, back it goes by value.
+fn step(s: State, back: bool) -> Stepped {
+    if back {
+        return cipher::back_by_value(s);
+    }
+    lent::step(s)
+}
+
+fn block(z: [u8; 16]) -> Block {
+    words::load(&z, 0)
+}
+
+// Eight blocks by single steps.
+fn steps(s: State, out: &mut [u8], back: bool) -> State
+    requires { ⌜ length (now out) ≡ 128 ⌝ }
+    ensures { λ _. ⌜ length (now (out .exit)) ≡ length (now (out .entry)) ⌝ }
+{
+    let mut t = s;
+    let mut i = 0;
+    while i < 8 {
+        let w = step(t, back);
+        let u = w.state;
+        let z = w.z;
+        t = u;
+        words::store(out, 16 * i, block(z));
+        i += 1;
+    }
+    t
+}
+
+// Eight blocks either way, by a run or step by step.
+fn eight(s: State, out: &mut [u8], back: bool, stepwise: bool) -> State
+    requires { ⌜ length (now out) ≡ 128 ⌝ }
+    ensures { λ _. ⌜ length (now (out .exit)) ≡ length (now (out .entry)) ⌝ }
+{
+    if stepwise {
+        return steps(s, out, back);
+    }
+    run(s, out, back)
 }
 
 // How many blocks agree, forward and back.
@@ -118,14 +163,13 @@ struct Agreed {
 }
 
 // Eight blocks forward, and from there back.
-fn keystream(v: u64, key: [u8; 32], iv: [u8; 16], expected: &[u8]) -> Agreed
+fn keystream(v: u64, key: [u8; 32], iv: [u8; 16], expected: &[u8], stepwise: bool) -> Agreed
     requires { ⌜ 128 ≤ length (now expected) ⌝ }
 {
-    let mut answer: u64 = 0;
     let mut out = [0u8; 128];
-    let e = run(started(key, iv), &mut answer, &mut out, 8, false);
+    let e = eight(started(key, iv), &mut out, false, stepwise);
     let forward = agreeing(v, Part::Keystream, &out, expected, 8);
-    run(e, &mut answer, &mut out, 8, true);
+    eight(e, &mut out, true, stepwise);
     let back = agreeing(v, Part::Back, &out, expected, 8);
     Agreed {
         forward: forward,
@@ -133,20 +177,27 @@ fn keystream(v: u64, key: [u8; 32], iv: [u8; 16], expected: &[u8]) -> Agreed
     }
 }
 
-// Vector number v: two lines, below one for each block that differs.
+// Vector number v: three lines, below one for each block that differs.
 pub fn vector(v: u64, key: [u8; 32], iv: [u8; 16], initial: [u8; 256], blocks: [u8; 128]) {
     let got = initialisation(key, iv);
     let agreed = agreeing(v, Part::Initialisation, &got, &initial, 16);
-    let k = keystream(v, key, iv, &blocks);
+    let r = keystream(v, key, iv, &blocks, false);
+    let w = keystream(v, key, iv, &blocks, true);
     report::text(b"SNOW-V ");
     report::number(v);
     report::text(b": ");
     tally(agreed, 16);
     report::text(b" initialisation blocks agree, ");
-    tally(k.forward, 8);
+    tally(r.forward, 8);
     report::text(b" keystream blocks agree\nSNOW-V ");
     report::number(v);
     report::text(b" back: ");
-    tally(k.back, 8);
-    report::text(b" keystream blocks agree, in the opposite order\n");
+    tally(r.back, 8);
+    report::text(b" keystream blocks agree, in the opposite order\nSNOW-V ");
+    report::number(v);
+    report::text(b" step by step: ");
+    tally(w.forward, 8);
+    report::text(b" keystream blocks agree, back ");
+    tally(w.back, 8);
+    report::text(b"\n");
 }
