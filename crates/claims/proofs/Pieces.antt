@@ -179,7 +179,7 @@ writes key iv l cs p out =
     let r = after-reached key iv l cs in
     subst
     (λ (u : Trail).
-        text-call (u .session) (p .list) (out .list) .out
-            ≡ granted (text-call (u .session) (p .list) (out .list) .number)
-            (encrypted (key .list) (iv .list) (length (u .text)) (p .list) ++ drop (length (p .list)) (out .list)) (out .list))
+    text-call (u .session) (p .list) (out .list) .out
+    ≡ granted (text-call (u .session) (p .list) (out .list) .number)
+    (encrypted (key .list) (iv .list) (length (u .text)) (p .list) ++ drop (length (p .list)) (out .list)) (out .list))
     (sym (r .is)) (writes-at (key .list) (iv .list) (p .list) (out .list) (r .stage))

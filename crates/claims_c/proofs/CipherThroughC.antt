@@ -145,8 +145,7 @@ unfolding seal-answer seal-out
 seals key iv ad text out tag room-16 =
     let n : ℕ = seal-number key iv ad text out in
     let e : next n (room 16 tag 0) ≡ n = ap (next n) (sym (fits 16 tag 0 room-16)) ∙ sym (nothing-later n) in
-    let o : List ℕ = cipher-of key iv text ++ drop (length text) out in
-    (
+    let o : List ℕ = cipher-of key iv text ++ drop (length text) out in (
       e,
       ap (λ (i : ℕ). granted i (granted n o out) out) e ∙ sym (granted-again n o out),
       ap (λ (i : ℕ). granted i (seal-tag key iv ad text out ++ drop 16 tag) tag) e,

@@ -129,7 +129,7 @@ module _ (s : Session) (g : Sized s) where
             λ tag room-16. ap₂ (λ (n : ℕ) (o : List ℕ). buffer-after n 16 o tag) (finished tag room-16) (listed (λ (u : Session). finish-call u .out));
         finish-session = λ tag room-16.
             ap₂ (λ (n : ℕ) (u : Session). left n u bytes) (finished tag room-16) (listed (λ (u : Session). finish-call u .session))
-                ∙ left-is (finish-call s .number) (finish-call s .session) finish-kept;
+            ∙ left-is (finish-call s .number) (finish-call s .session) finish-kept;
         suspend-answers = λ out. answers (λ (u : Session). suspend-call u out .number);
         suspend-output = λ out. call-written (λ (u : Session). suspend-call u out) out (suspend-again s out);
       }

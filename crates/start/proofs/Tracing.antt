@@ -11,7 +11,7 @@ use borrow.Author.Tests.{eqb-true, eqb-false}
 use lib.Dec.{eqb}
 use lib.ListN.{length}
 use Rattle.scope.specs.Limits.{most-blocks}
-use Rattle.words.specs.Bytes.{Row, IsBlock}
+use Rattle.words.specs.Bytes.{Row}
 use Rattle.words.proofs.Rows.{Below}
 use Rattle.cipher.specs.Registers.{Registers, IsRegisters}
 use Rattle.cipher.specs.Run.{forward, backward, moves}
