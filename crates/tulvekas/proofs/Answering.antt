@@ -1,17 +1,17 @@
 -- What a refusal leaves and an accepted call gives, whatever the call, and how tests on lengths decide an answer.
-use mathlib.Core.Path.{_≡_, refl, ap, _∙_}
-use mathlib.Core.Bool.{Bool, true, false}
+use mathlib.Core.Path.{_≡_, refl, sym, ap, _∙_}
+use mathlib.Core.Bool.{Bool, true, false, not}
 use mathlib.Core.List.{List, [], _∷_, _++_}
 use Prim.Native.Nat.{ℕ, zero, suc, _≤_, _<_}
 use native.Mathlib.Omega.{arith}
-use borrow.Author.Tests.{eq-eqb, ne-eqb, lt-ltb, le-ltb}
+use borrow.Author.Tests.{eqb-true, not-false, eq-eqb, ne-eqb, lt-ltb, le-ltb}
 use lib.Dec.{eqb}
 use lib.ListN.{length, drop, set}
 use Rattle.scope.specs.Refusals.{pick, granted}
 use Rattle.session.specs.Session.{Session}
 use Rattle.tulvekas.specs.Order.{next, room, buffer-after}
 use Rattle.tulvekas.specs.SessionBytes.{session-bytes, session-in, Leaves}
-use Rattle.tulvekas.specs.Sessions.{whole}
+use Rattle.tulvekas.specs.Sessions.{is-session, whole}
 
 pub never : (k : ℕ) → ¬ (suc k ≡ 0)
 never k e = omega arith
@@ -76,9 +76,13 @@ module _ (k : ℕ) (out : List ℕ) (later : ℕ) where
   pub fits : k ≤ length out → later ≡ room k out later
   fits h = rw (le-ltb (length out) k h)
 
-module _ (s : List ℕ) (later : ℕ) where
-  pub torn : ¬ (length s ≡ 216) → 8 ≡ whole s later
-  torn h = rw (ne-eqb (length s) 216 h)
+-- r is what the code says of the session's length
+module _ (s : List ℕ) {r : Bool} (e : r ≡ is-session s) where
+  pub torn : (later : ℕ) → not r ≡ true → 8 ≡ whole s later
+  torn later h = rw (← e, h)
 
-  pub sound : length s ≡ 216 → later ≡ whole s later
-  sound h = rw (eq-eqb (length s) 216 h)
+  pub long : not r ≡ false → length s ≡ 216
+  long h = eqb-true (length s) 216 (sym e ∙ not-false r h)
+
+pub sound : (s : List ℕ) (later : ℕ) → length s ≡ 216 → later ≡ whole s later
+sound s later h = rw (eq-eqb (length s) 216 h)

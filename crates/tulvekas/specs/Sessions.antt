@@ -2,7 +2,7 @@
 -- the number that it answers, which is that of the call below, with 8, first of all, for a session of another length, and 4, last, for a buffer
 -- that is too short; what it leaves in a session that it was lent to write; and what stands in its output. A refusal changes no byte.
 use Prim.Native.Nat.{ℕ}
-use mathlib.Core.Bool.{not}
+use mathlib.Core.Bool.{Bool, not}
 use mathlib.Core.List.{List}
 use lib.Dec.{eqb}
 use lib.ListN.{length}
@@ -14,8 +14,11 @@ use Rattle.tulvekas.specs.Order.{next, room, buffer-after}
 use Rattle.tulvekas.specs.SessionBytes.{session-in, Leaves}
 
 -- a session that is read is 216 bytes
+abbrev pub is-session : (session : List ℕ) → Bool
+is-session s = eqb (length s) 216
+
 abbrev pub whole : (session : List ℕ) → ℕ → ℕ
-whole s later = refuse (not (eqb (length s) 216)) bad-block later
+whole s later = refuse (not (is-session s)) bad-block later
 
 -- ---- begin: 1, 2, 4
 

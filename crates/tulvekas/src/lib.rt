@@ -16,7 +16,7 @@ ghost use Rattle.retention.specs.Keeping.{keeping};
 ghost use Rattle.tulvekas.specs.Order.{next, room, buffer-after};
 ghost use Rattle.tulvekas.specs.SessionBytes.{session-in, Leaves};
 ghost use Rattle.tulvekas.specs.Pages.{seal-answer, seal-writes, seal-writes-tag};
-ghost use Rattle.tulvekas.specs.Sessions.{begin-answer, begin-leaves, data-answer, data-leaves, text-answer, text-leaves, text-writes, finish-answer, finish-leaves, finish-writes, suspend-answer, suspend-writes, resume-answer, resume-leaves, resume-writes};
+ghost use Rattle.tulvekas.specs.Sessions.{is-session, begin-answer, begin-leaves, data-answer, data-leaves, text-answer, text-leaves, text-writes, finish-answer, finish-leaves, finish-writes, suspend-answer, suspend-writes, resume-answer, resume-leaves, resume-writes};
 ghost use Rattle.tulvekas.specs.Cipher.{mode-named, keystream-answer, keystream-writes, trace-of-bytes, mode-byte, trace-answer, trace-iv, trace-sealed};
 ghost use Rattle.tulvekas.specs.Keeping.{kept-answer, kept-byte};
 use ghash::Element;
@@ -25,6 +25,17 @@ use session::Session;
 use start::Mode;
 use start::Traced;
 use words::Block;
+
+// The lengths of what C hands over, under include/tulvekas.h's names.
+const KEY_BYTES: usize = 32;
+
+const IV_BYTES: usize = 16;
+
+const TAG_BYTES: usize = 16;
+
+const SESSION_BYTES: usize = 216;
+
+const STATE_BYTES: usize = 112;
 
 // Sixteen bytes to the front of a buffer.
 fn put_block(out: &mut [u8], b: [u8; 16])
@@ -64,7 +75,7 @@ pub extern "C" fn tulvekas_seal(
     ensures out { λ _. ⌜ now (out .exit) ≡ seal-writes (now (key .entry)) (now (iv .entry)) (now (ad .entry)) (now (text .entry)) (now (out .entry)) (now (tag .entry)) ⌝ }
     ensures tag { λ _. ⌜ now (tag .exit) ≡ seal-writes-tag (now (key .entry)) (now (iv .entry)) (now (ad .entry)) (now (text .entry)) (now (out .entry)) (now (tag .entry)) ⌝ }
 {
-    if tag.len() < 16 {
+    if tag.len() < TAG_BYTES {
         return short_tag(key, iv, ad, text);
     }
     let p = page::seal(key, iv, ad, text, out);
@@ -94,6 +105,13 @@ pub extern "C" fn tulvekas_open(
 }
 
 // ---- sessions in bytes
+
+// Whether a session that is to be read has its length.
+fn is_session(b: &[u8]) -> bool
+    ensures { λ r. ⌜ r ≡ is-session (now (b .entry)) ⌝ }
+{
+    b.len() == SESSION_BYTES
+}
 
 // H, the end pad and the keystream block in use, at their place.
 fn put_drawn(out: &mut [u8], h: Element, pad: Block, current: Block)
@@ -160,7 +178,7 @@ pub extern "C" fn tulvekas_begin(key: &[u8], iv: &[u8], session: &mut [u8]) -> u
     if n != 0 {
         return n;
     }
-    if session.len() < 216 {
+    if session.len() < SESSION_BYTES {
         return scope::SHORT_OUTPUT;
     }
     let b = session::begin(key, iv);
@@ -175,7 +193,7 @@ pub extern "C" fn tulvekas_data(session: &mut [u8], piece: &[u8]) -> u64
     ensures answer { λ r. ⌜ r ≡ data-answer (now (session .entry)) (now (piece .entry)) ⌝ }
     ensures session { λ _. ⌜ data-leaves (now (session .entry)) (now (piece .entry)) (now (session .exit)) ⌝ }
 {
-    if session.len() != 216 {
+    if !is_session(session) {
         return scope::BAD_BLOCK;
     }
     let d = session::data(load_session(session), piece);
@@ -195,13 +213,13 @@ pub extern "C" fn tulvekas_text(session: &mut [u8], piece: &[u8], out: &mut [u8]
     ensures session { λ _. ⌜ text-leaves (now (session .entry)) (now (piece .entry)) (now (out .entry)) (now (session .exit)) ⌝ }
     ensures out { λ _. ⌜ now (out .exit) ≡ text-writes (now (session .entry)) (now (piece .entry)) (now (out .entry)) ⌝ }
 {
-    if session.len() != 216 {
+    if !is_session(session) {
         return scope::BAD_BLOCK;
     }
     let t = session::text(load_session(session), piece, out);
-    let n = t.answer;
-    if n != 0 {
-        return n;
+    let taken = t.answer;
+    if taken != 0 {
+        return taken;
     }
     let s = t.session;
     store_session(session, s);
@@ -215,14 +233,14 @@ pub extern "C" fn tulvekas_finish(session: &mut [u8], tag: &mut [u8]) -> u64
     ensures session { λ _. ⌜ finish-leaves (now (session .entry)) (now (tag .entry)) (now (session .exit)) ⌝ }
     ensures tag { λ _. ⌜ now (tag .exit) ≡ finish-writes (now (session .entry)) (now (tag .entry)) ⌝ }
 {
-    if session.len() != 216 {
+    if !is_session(session) {
         return scope::BAD_BLOCK;
     }
     let s = load_session(session);
     if s.phase >= 2 {
         return scope::OUT_OF_PHASE;
     }
-    if tag.len() < 16 {
+    if tag.len() < TAG_BYTES {
         return scope::SHORT_OUTPUT;
     }
     let f = session::finish(s);
@@ -241,7 +259,7 @@ pub extern "C" fn tulvekas_suspend(session: &[u8], block: &mut [u8]) -> u64
     ensures answer { λ r. ⌜ r ≡ suspend-answer (now (session .entry)) (now (block .entry)) ⌝ }
     ensures block { λ _. ⌜ now (block .exit) ≡ suspend-writes (now (session .entry)) (now (block .entry)) ⌝ }
 {
-    if session.len() != 216 {
+    if !is_session(session) {
         return scope::BAD_BLOCK;
     }
     let p = suspend::suspend(load_session(session), block);
@@ -265,10 +283,10 @@ pub extern "C" fn tulvekas_resume(
     if n != 0 {
         return n;
     }
-    if session.len() < 216 {
+    if session.len() < SESSION_BYTES {
         return scope::SHORT_OUTPUT;
     }
-    if iv.len() < 16 {
+    if iv.len() < IV_BYTES {
         return scope::SHORT_OUTPUT;
     }
     let s = t.session;
@@ -333,10 +351,10 @@ pub extern "C" fn tulvekas_trace(
     ensures iv { λ _. ⌜ now (iv .exit) ≡ trace-iv (trace-of-bytes (now (state .entry)) (now (key .entry)) count) (now (iv .entry)) (now (sealed .entry)) ⌝ }
     ensures sealed { λ _. ⌜ now (sealed .exit) ≡ trace-sealed (trace-of-bytes (now (state .entry)) (now (key .entry)) count) (now (iv .entry)) (now (sealed .entry)) ⌝ }
 {
-    if key.len() != 32 {
+    if key.len() != KEY_BYTES {
         return scope::KEY_LENGTH;
     }
-    if state.len() != 112 {
+    if state.len() != STATE_BYTES {
         return scope::BAD_BLOCK;
     }
     let s = suspended::get_state(state, 0);
@@ -344,7 +362,7 @@ pub extern "C" fn tulvekas_trace(
     match t {
         Traced::Refused(n) => n,
         Traced::Found(o) => {
-            if iv.len() < 16 {
+            if iv.len() < IV_BYTES {
                 return scope::SHORT_OUTPUT;
             }
             if sealed.len() < 1 {
