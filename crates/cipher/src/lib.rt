@@ -4,9 +4,7 @@ ghost use mathlib.Core.List.{[], _∷_, _++_};
 ghost use Prim.Native.Nat.{_/_, _%_};
 ghost use lib.ListN.{length, take, drop};
 ghost use denote.Ref.{ptr};
-ghost use Rattle.words.specs.Xor.{xors};
 ghost use Rattle.words.specs.Bytes.{little, littles};
-ghost use Rattle.words.specs.Sums.{_⊞_};
 ghost use Rattle.words.specs.Machine.{bytesOf};
 ghost use Rattle.aes.specs.Field.{sub};
 ghost use Rattle.aes.specs.Unround.{unsub};
@@ -14,7 +12,7 @@ ghost use Rattle.aes.specs.Tables.{Holds};
 ghost use Rattle.cipher.specs.Step;
 ghost use Rattle.cipher.specs.Back;
 ghost use Rattle.cipher.specs.Run.{forward, backward, move, made, run-number, run-registers, run-part};
-ghost use Rattle.cipher.specs.Machine.{registersOf, Moves, Steps};
+ghost use Rattle.cipher.specs.Machine.{registersOf, Precedes, Moves, Steps};
 ghost use Rattle.cipher.specs.Inner.{box};
 ghost use Rattle.cipher.specs.Lent.{front-of};
 use lfsr::Lfsr;
@@ -119,17 +117,17 @@ pub fn forward(s: State, sbox: &[u8; 256]) -> Moved
     Moved { state: state, z: z }
 }
 
-// The z of the step that led to a state, of R1 and R2 before it and of B after it, whose low half was T1.
-fn z_made(r1: Block, r2: Block, b: [u16; 16]) -> Block
-    ensures { λ r. ⌜ bytesOf r ≡ xors (bytesOf r1 ⊞ littles 2 (take 8 b)) (bytesOf r2) ⌝ }
-{
-    words::xor(words::plus(r1, low_half(b)), r2)
+// What of the step that led to a state does not hang on register A: R1 and R2 before it, and its z.
+pub struct Before {
+    pub r1: Block,
+    pub r2: Block,
+    pub z: Block,
 }
 
-// The z of the step that led to a state, which does not hang on register A.
-pub fn z_before(s: State, inverse: &[u8; 256]) -> Block
+// The z of the step that led to a state, over a lent inverse S-box, with the R1 and R2 that it was made of. B's low half was T1.
+pub fn z_before(s: State, inverse: &[u8; 256]) -> Before
     requires { ⌜ Holds unsub (now inverse) ⌝ }
-    ensures { λ r. ⌜ bytesOf r ≡ Back.z-before (registersOf s) ⌝ }
+    ensures { λ r. ⌜ Precedes s r ⌝ }
 {
     let l = s.lfsr;
     let r2 = s.r2;
@@ -137,31 +135,42 @@ pub fn z_before(s: State, inverse: &[u8; 256]) -> Block
     let b = l.b;
     let o1 = aes::unround(r2, inverse);
     let o2 = aes::unround(r3, inverse);
-    z_made(o1, o2, b)
+    let z = words::xor(words::plus(o1, low_half(b)), o2);
+    Before {
+        r1: o1,
+        r2: o2,
+        z: z,
+    }
 }
 
-// One step back, over a lent inverse S-box, with the z of the step that is undone. The clocks go first: R3 had the old a0 to a7 xored in.
-pub fn backward(s: State, inverse: &[u8; 256]) -> Moved
-    requires { ⌜ Holds unsub (now inverse) ⌝ }
-    ensures { λ r. ⌜ Moves backward s r ⌝ }
+// The state before that step. The clocks go first: R3 had the old a0 to a7 xored in.
+pub fn state_before(s: State, p: Before) -> State
+    requires { ⌜ Precedes s p ⌝ }
+    ensures { λ r. ⌜ registersOf r ≡ Back.back (registersOf s) ⌝ }
 {
     let l = s.lfsr;
     let r1 = s.r1;
-    let r2 = s.r2;
-    let r3 = s.r3;
-    let b = l.b;
-    let o1 = aes::unround(r2, inverse);
-    let o2 = aes::unround(r3, inverse);
-    let z = z_made(o1, o2, b);
+    let o1 = p.r1;
+    let o2 = p.r2;
     let o = lfsr::unclock8(l);
     let a = o.a;
     let o3 = words::xor(words::minus(sigma(r1), o2), low_half(a));
-    let state = State {
+    State {
         lfsr: o,
         r1: o1,
         r2: o2,
         r3: o3,
-    };
+    }
+}
+
+// One step back, over a lent inverse S-box, with the z of the step that is undone.
+pub fn backward(s: State, inverse: &[u8; 256]) -> Moved
+    requires { ⌜ Holds unsub (now inverse) ⌝ }
+    ensures { λ r. ⌜ Moves backward s r ⌝ }
+{
+    let p = z_before(s, inverse);
+    let z = p.z;
+    let state = state_before(s, p);
     Moved { state: state, z: z }
 }
 

@@ -10,6 +10,9 @@ use Rattle.words.proofs.Rows.{row-take, row-drop, row-append, below-test, zeros
 use Rattle.cipher.specs.Registers.{Registers, IsRegisters}
 use Rattle.cipher.specs.Step.{z, step}
 use Rattle.cipher.specs.Back.{back, z-before}
+use Rattle.cipher.specs.declared.State.{State}
+use Rattle.cipher.specs.declared.Before.{Before}
+use Rattle.cipher.specs.Machine.{registersOf, Precedes}
 use Rattle.cipher.proofs.Inverse.{z-block, step-good, back-good, back-step, step-back, z-before-step, z-before-is}
 use Rattle.start.specs.Start.{Mode, Mode.plain, Mode.sealed, mode-cells, load, into-a, into-r1, initial, initials, start}
 use Rattle.start.specs.Trace.{uninitial, uninitials, loaded}
@@ -22,6 +25,16 @@ z-before-block s g = rw (z-before-is s g) (z-block (back s) (back-good s g))
 z-before-a : (s : Registers) (x : List ℕ) → z-before (into-a x s) ≡ z-before s
 unfolding z-before into-a
 z-before-a s x = refl
+
+-- nor for R1 and R2 before the step
+pub precedes-a : (s t : State) (p : Before) (x : List ℕ) → registersOf t ≡ into-a x (registersOf s) → Precedes s p → Precedes t p
+unfolding back z-before into-a
+precedes-a s t p x e h =
+    record {
+      r1 = h .r1 ∙ ap (λ (u : Registers). back u .r1) (sym e);
+      r2 = h .r2 ∙ ap (λ (u : Registers). back u .r2) (sym e);
+      z = h .z ∙ ap z-before (sym e);
+    }
 
 -- ---- one of the sixteen steps
 

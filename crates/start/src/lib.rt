@@ -205,8 +205,9 @@ fn uninitial(s: State, inverse: &[u8; 256]) -> State
     requires { ⌜ Holds unsub (now inverse) ⌝ }
     ensures { λ r. ⌜ registersOf r ≡ Trace.uninitial (registersOf s) ⌝ }
 {
-    let w = cipher::backward(into_a(s, cipher::z_before(s, inverse)), inverse);
-    w.state
+    let p = cipher::z_before(s, inverse);
+    let z = p.z;
+    cipher::state_before(into_a(s, z), p)
 }
 
 fn uninitials(s: State, n: usize, inverse: &[u8; 256]) -> State

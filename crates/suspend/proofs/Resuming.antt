@@ -10,8 +10,10 @@ use lib.ListN.{length}
 use Rattle.words.specs.Bytes.{Row}
 use Rattle.words.proofs.Rows.{Below}
 use Rattle.cipher.specs.Registers.{Registers}
-use Rattle.cipher.specs.Run.{forward, backward, made, moves}
-use Rattle.cipher.proofs.Moves.{moves-good, made-again}
+use Rattle.cipher.specs.Back.{z-before}
+use Rattle.cipher.specs.Run.{forward, move, moves}
+use Rattle.cipher.proofs.Inverse.{z-before-step}
+use Rattle.cipher.proofs.Moves.{moves-good}
 use Rattle.start.specs.Start.{Mode.plain, Mode.sealed, start, sealed-keystream}
 use Rattle.start.specs.Leads.{LeadsTo, Traced, Traced.origin, Traced.refused, Traceable, Traces}
 use Rattle.start.specs.Trace.{trace}
@@ -25,15 +27,15 @@ use Rattle.layout.proofs.Taken.{read-fine}
 use Rattle.suspend.specs.Calls.{not-resumed, revived, LeadsToBlock, Revives}
 use Rattle.suspend.specs.Walk.{by-origin, resume-call}
 
--- the step before stands the block drawn last
+-- the z of the step before is the block drawn last
 pub last-drawn : (key iv : List ℕ) → Row 32 256 key → (t : ℕ) {s : Registers} → LeadsTo key (drawn-at t) iv sealed s
-    → made backward s ≡ sealed-keystream key iv (1 + ceil16 t)
-unfolding moves made
+    → z-before s ≡ sealed-keystream key iv (1 + ceil16 t)
+unfolding moves move
 last-drawn key iv k t l =
     let n : ℕ = 1 + ceil16 t in
     let e : drawn-at t ≡ suc n = omega arith in
-    ap (made backward) (sym (l .arrives) ∙ ap (λ (i : ℕ). moves forward i (start key iv sealed)) e)
-    ∙ made-again forward (moves forward n (start key iv sealed)) (moves-good forward n (start key iv sealed) (start-good key k iv sealed (l .iv-block)))
+    ap z-before (sym (l .arrives) ∙ ap (λ (i : ℕ). moves forward i (start key iv sealed)) e)
+    ∙ z-before-step (moves forward n (start key iv sealed)) (moves-good forward n (start key iv sealed) (start-good key k iv sealed (l .iv-block)))
 
 module _ (key b : List ℕ) where
   -- ---- 1 and 8

@@ -108,7 +108,7 @@ fn revived(key: &[u8], iv: [u8; 16], k: Suspended) -> Session
     let h = first.h;
     let pad = first.pad;
     let inverse = aes::inverse_sbox();
-    let before = cipher::backward(state, &inverse);
+    let before = cipher::z_before(state, &inverse);
     let current = before.z;
     Session {
         phase: k.phase,

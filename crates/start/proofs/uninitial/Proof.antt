@@ -1,22 +1,28 @@
--- `start::uninitial` meets its contract.
+-- `start::uninitial` meets its contract: what the step back goes by is the same with z in a8 to a15 and without it.
 use Prim.Native.Nat.{ℕ}
 use mathlib.Core.Path.{ap, _∙_}
 use mathlib.Core.List.{List}
 use Rattle.cipher.specs.Back.{back}
-use Rattle.cipher.specs.Run.{move}
 use Rattle.cipher.specs.Machine.{registersOf}
 use Rattle.start.specs.Start.{into-a}
 use Rattle.start.specs.Trace.{uninitial}
+use Rattle.start.proofs.Undo.{precedes-a}
 use borrow.Author.Needs.{needs}
 use Rattle.start.proofs.uninitial.Statement.{statement}
 use Rattle.start.proofs.uninitial.Tie as tie
 
+state-before-requires : tie.Need-state-before-requires
+state-before-requires c κs =
+    let p = c .before .before in
+    precedes-a _ _ _ _ (c .into-a .ensures) (p .z-before .ensures)
+
 returns : tie.Need-returns
-unfolding move uninitial
+unfolding uninitial
 returns c =
-    let m = c .before .before in
-    c .before .backward .ensures .state
-    ∙ ap back (m .into-a .ensures ∙ ap (λ (x : List ℕ). into-a x (registersOf (m .before .before .args .s))) (m .before .z-before .ensures))
+    let m = c .before in
+    let p = m .before .before in
+    c .state-before .ensures
+    ∙ ap back (m .into-a .ensures ∙ ap (λ (x : List ℕ). into-a x (registersOf (p .before .args .s))) (p .z-before .ensures .z))
 
 pub uninitial-spec : {M : Type 1} → statement M
-uninitial-spec = tie.close (tie.spec (λ c κs. search needs) (λ c κs. search needs) (λ c κs. search needs) returns)
+uninitial-spec = tie.close (tie.spec (λ c κs. search needs) (λ c κs. search needs) state-before-requires returns)

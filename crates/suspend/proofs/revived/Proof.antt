@@ -30,7 +30,7 @@ returns c =
     let iv = s .args .t2 in
     let k = s .args .k in
     let first = b .begin .ensures .session ∙ granted-session key iv (both-right key iv (s .pre .0) (iv-long s)) in
-    let current = c .before .backward .ensures .z ∙ last-drawn key iv (key-row (b .before .before .before .before)) (k .text) (s .pre .1) in
+    let current = c .before .z-before .ensures .z ∙ last-drawn key iv (key-row (b .before .before .before .before)) (k .text) (s .pre .1) in
     λ i. record {
       phase = k .phase;
       ad = k .ad;
