@@ -64,19 +64,25 @@ Answered d s xs n t k w out =
     × (out ≡ run-part d s (length xs) n ++ drop k xs)))
 
 module _ (d : Bool) (s : Registers) (xs : List ℕ) (n : ℕ) where
-  refused : (a : ℕ) → eqb a 0 ≡ false → run-number (length xs) n ≡ a → Answered d s xs n s 0 a xs
+  answered : (a : ℕ) → eqb a 0 ≡ false → run-number (length xs) n ≡ a → Answered d s xs n s 0 a xs
   unfolding run-registers run-part
-  refused a f e =
+  answered a f e =
       subst (λ (t : Bool). (s ≡ pick t (moves d n s) s) × ((0 ≡ length (pick t (blocks d n s) [])) × ((a ≡ run-number (length xs) n) × (xs ≡ pick t (blocks d n s) [] ++ xs))))
       (sym (ap (λ (b : ℕ). eqb b 0) e ∙ f)) (refl, (refl, (sym e, refl)))
 
-  pub too-many : most-blocks < n → Answered d s xs n s 0 9 xs
-  unfolding run-number
-  too-many h = refused 9 refl (rw (lt-ltb most-blocks n h))
+  -- what a refused run leaves
+  module _ {t : Registers} {w : ℕ} (state : t ≡ s) (wrote : w ≡ 0) where
+    refused : (a : ℕ) → eqb a 0 ≡ false → run-number (length xs) n ≡ a → Answered d s xs n t w a xs
+    refused a f e =
+        subst (λ (u : Registers). Answered d s xs n u w a xs) (sym state) (subst (λ (k : ℕ). Answered d s xs n s k a xs) (sym wrote) (answered a f e))
 
-  pub no-room : n ≤ most-blocks → length xs < 16 * n → Answered d s xs n s 0 4 xs
-  unfolding run-number
-  no-room h r = refused 4 refl (rw (le-ltb most-blocks n h, lt-ltb (length xs) (16 * n) r))
+    pub too-many : most-blocks < n → Answered d s xs n t w 9 xs
+    unfolding run-number
+    too-many h = refused 9 refl (rw (lt-ltb most-blocks n h))
+
+    pub no-room : n ≤ most-blocks → length xs < 16 * n → Answered d s xs n t w 4 xs
+    unfolding run-number
+    no-room h r = refused 4 refl (rw (le-ltb most-blocks n h, lt-ltb (length xs) (16 * n) r))
 
   number-zero : n ≤ most-blocks → 16 * n ≤ length xs → run-number (length xs) n ≡ 0
   unfolding run-number

@@ -239,6 +239,13 @@ pub struct Ran {
     pub wrote: usize,
 }
 
+// What a refused run leaves: the state as it was, and nothing written.
+fn refused(s: State) -> Ran
+    ensures { λ r. ⌜ (r .state ≡ s) × (r .wrote ≡ 0) ⌝ }
+{
+    Ran { state: s, wrote: 0 }
+}
+
 // n steps, forward or back: their blocks in the order made, at the front of the output. Refused: 9 for an n over 65,538, 4 where the blocks do
 // not fit the output. The answer becomes 0, or the refusal's number, and is all that a refusal changes.
 pub fn run_core(s: State, answer: &mut u64, out: &mut [u8], n: usize, back: bool) -> Ran
@@ -249,11 +256,11 @@ pub fn run_core(s: State, answer: &mut u64, out: &mut [u8], n: usize, back: bool
 {
     if n as u64 > scope::MOST_BLOCKS {
         *answer = scope::COUNT_TOO_HIGH;
-        return Ran { state: s, wrote: 0 };
+        return refused(s);
     }
     if out.len() < 16 * n {
         *answer = scope::SHORT_OUTPUT;
-        return Ran { state: s, wrote: 0 };
+        return refused(s);
     }
     let boxed = table(back);
     let mut t = s;

@@ -3,3 +3,4 @@ pub mod Leads
 pub mod Trace
 pub mod Machine
 pub mod Laws
+pub mod Inner

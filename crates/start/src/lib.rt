@@ -15,6 +15,7 @@ ghost use Rattle.start.specs.Leads;
 ghost use Rattle.start.specs.Leads.{Traces};
 ghost use Rattle.start.specs.Trace;
 ghost use Rattle.start.specs.Machine.{modeOf, Initials, Starts, tracedOf};
+ghost use Rattle.start.specs.Inner.{walk-number};
 use cipher::Moved;
 use cipher::State;
 use lfsr::Lfsr;
@@ -310,17 +311,28 @@ fn unload(s: State, low: Block, high: Block) -> Traced
     Traced::Refused(scope::NO_ORIGIN)
 }
 
+// The number of a trace before its walk: 1 for the key's length, 9 for the count.
+fn walk_number(key: &[u8], count: u64) -> u64
+    ensures { λ r. ⌜ r ≡ walk-number (now (key .entry)) count ⌝ }
+{
+    if key.len() != 32 {
+        return scope::KEY_LENGTH;
+    }
+    if count <= scope::MOST_BLOCKS {
+        return scope::ACCEPTED;
+    }
+    scope::COUNT_TOO_HIGH
+}
+
 // Document 01's trace: the IV and mode that lead to a state under a key at a count of blocks drawn. Refused: 1 for the key's length, 9 for
 // the count, 6 where no IV and mode lead there.
 pub fn trace(s: State, key: &[u8], count: u64) -> Traced
     ensures leads { λ r. ⌜ Traces (registersOf s) (now (key .entry)) count (tracedOf r) ⌝ }
     ensures walk { λ r. ⌜ tracedOf r ≡ Trace.trace (registersOf s) (now (key .entry)) count ⌝ }
 {
-    if key.len() != 32 {
-        return Traced::Refused(scope::KEY_LENGTH);
-    }
-    if count > scope::MOST_BLOCKS {
-        return Traced::Refused(scope::COUNT_TOO_HIGH);
+    let n = walk_number(key, count);
+    if n != 0 {
+        return Traced::Refused(n);
     }
     let inverse = aes::inverse_sbox();
     let low = words::load(key, 0);

@@ -1,6 +1,6 @@
 -- `cipher::run_core` meets its contract: after i turns i steps are made, and their blocks stand at the front of the output.
 use Prim.Native.Nat.{ℕ, _-_}
-use mathlib.Core.Path.{_≡_, subst}
+use mathlib.Core.Path.{_≡_, ap, subst}
 use native.Mathlib.Omega.{arith}
 use borrow.Author.Needs.{needs}
 use lib.ListN.{length}
@@ -22,13 +22,19 @@ good : (c : tie.Start Inv-loop μ-loop) → IsRegisters (registersOf (c .args .s
 good c = every-state (c .args .s) _ (c .good .0)
 
 returns : tie.Need-returns Inv-loop μ-loop
-returns c = let a = c .before .before .args in too-many (a .back) (registersOf (a .s)) (now (a .out)) (a .n) (omega arith)
+returns c =
+    let a = c .before .before .before .args in
+    let r = c .refused .ensures in
+    too-many (a .back) (registersOf (a .s)) (now (a .out)) (a .n) (ap registersOf (r .0)) (r .1) (omega arith)
 
 mul-if2 : tie.Need-mul-if2 Inv-loop μ-loop
 mul-if2 c = omega arith
 
 returns-2 : tie.Need-returns-2 Inv-loop μ-loop
-returns-2 c = let a = c .before .before .before .args in no-room (a .back) (registersOf (a .s)) (now (a .out)) (a .n) (omega arith) (omega arith)
+returns-2 c =
+    let a = c .before .before .before .before .args in
+    let r = c .refused2 .ensures in
+    no-room (a .back) (registersOf (a .s)) (now (a .out)) (a .n) (ap registersOf (r .0)) (r .1) (omega arith) (omega arith)
 
 table-requires : tie.Need-table-requires Inv-loop μ-loop
 table-requires c κs = search needs
@@ -86,8 +92,10 @@ run-core-spec =
     (tie.spec
     Inv-loop
     μ-loop
+    (λ c κs. search needs)
     returns
     mul-if2
+    (λ c κs. search needs)
     returns-2
     table-requires
     loop-holds

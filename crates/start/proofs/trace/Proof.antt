@@ -1,12 +1,16 @@
 -- `start::trace` meets its contract, by the key's length and the count: its answer is that of the walk, of which `traces` says what it finds.
 use mathlib.Core.Path.{_≡_, sym, ap₂, subst, _∙_}
+use Prim.Native.Nat.{_≤_}
+use native.Mathlib.Omega.{arith}
+use lib.ListN.{length}
 use denote.Ref.{now}
+use Rattle.scope.specs.Limits.{most-blocks}
 use Rattle.words.proofs.Typed.{known-bytes}
 use Rattle.cipher.specs.Machine.{registersOf}
 use Rattle.cipher.proofs.Typed.{every-state}
 use Rattle.start.specs.Leads.{Traced, Traces}
 use Rattle.start.specs.Trace.{unload, loaded, trace}
-use Rattle.start.proofs.Answers.{key-whole, trace-bad-key, trace-too-far, trace-walks}
+use Rattle.start.proofs.Answers.{key-whole, walkable, trace-refused, trace-walks}
 use Rattle.start.proofs.Tracing.{traces}
 use borrow.Author.Needs.{needs}
 use Rattle.start.proofs.trace.Statement.{statement}
@@ -22,34 +26,35 @@ both c e =
 
 returns : tie.Need-returns
 returns c =
-    let a = c .before .before .args in
-    both (c .before) (trace-bad-key (registersOf (a .s)) (now (a .key)) (a .count) (c .if1 .taken))
+    let w = c .before in
+    let a = w .before .before .args in
+    both (w .before) (trace-refused (registersOf (a .s)) (now (a .key)) (a .count) (w .walk-number .ensures) (c .if1 .taken))
+
+-- a key of 32 bytes, and a count within the limit
+in-order : (c : tie.Else1) → let a = c .before .before .before .args in (length (now (a .key)) ≡ 32) × (a .count ≤ most-blocks)
+in-order c = let a = c .before .before .before .args in walkable (now (a .key)) (a .count) (sym (c .before .walk-number .ensures) ∙ c .if1 .left)
 
 returns-2 : tie.Need-returns-2
 returns-2 c =
-    let a = c .before .before .before .args in
-    both (c .before .before) (trace-too-far (registersOf (a .s)) (now (a .key)) (a .count) (c .before .if1 .left) (c .if2 .taken))
-
-returns-3 : tie.Need-returns-3
-returns-3 c =
-    let entry = c .before .before .before .before .before .before .before .before .before .before in
+    let x = c .before .before .before .before .before .before .before .before in
+    let entry = x .before .before in
     let a = entry .before .args in
-    let lk = c .before .before .before .before .before .before .before .before .before .if1 .left in
+    let lk = in-order x .0 in
     let k = key-whole (now (a .key)) _ _ lk (c .before .before .before .before .before .before .load .ensures) (c .before .before .before .before .before .load2 .ensures) in
     both entry
     (c .unload .ensures ∙ ap₂ unload k (c .before .loaded .ensures ∙ ap₂ loaded k (c .before .before .before .walked-back .ensures))
-    ∙ trace-walks (registersOf (a .s)) (now (a .key)) (a .count) lk (c .before .before .before .before .before .before .before .before .if2 .left))
+    ∙ trace-walks (registersOf (a .s)) (now (a .key)) (a .count) lk (in-order x .1))
 
 pub trace-spec : {M : Type 1} → statement M
 trace-spec =
     tie.close
     (tie.spec
+    (λ c κs. search needs)
     returns
-    returns-2
+    (λ c κs. search needs)
+    (λ c κs. omega (arith, in-order (c .before) .0))
+    (λ c κs. omega (arith, in-order (c .before .before) .0))
     (λ c κs. search needs)
     (λ c κs. search needs)
     (λ c κs. search needs)
-    (λ c κs. search needs)
-    (λ c κs. search needs)
-    (λ c κs. search needs)
-    returns-3)
+    returns-2)
