@@ -5,7 +5,6 @@ use Prim.Native.Nat.{ℕ}
 use native.Mathlib.Omega.{arith}
 use lib.ListN.{length, take, drop}
 use lib.Seq.{take-all}
-use Rattle.session.specs.Pieces.{closed, tag-of}
 use Rattle.digest.specs.Digest.{absorb}
 use Rattle.page.specs.Page.{encrypted, tag-for}
 use Rattle.page.specs.Inner.{tag-over}
@@ -13,7 +12,7 @@ use Rattle.page.proofs.Stages.{Stage.taking-text, phase-at, sum-at, ses
 use Rattle.page.proofs.Tags.{tag-for-is}
 
 pub tag-over-at : (key iv d c : List ℕ) → tag-over (session-at key iv (taking-text d [])) c ≡ tag-for key iv d c
-unfolding tag-over tag-of closed session-at phase-at sum-at encrypted absorb
+unfolding tag-over session-at phase-at sum-at encrypted absorb
 tag-over-at key iv d c = sym (tag-for-is key iv d c)
 
 -- sixteen bytes from the front of sixteen bytes

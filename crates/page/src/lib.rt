@@ -5,7 +5,7 @@ ghost use Rattle.words.specs.Machine.{bytesOf};
 ghost use Rattle.ghash.specs.Machine.{bytesOfElement, Table};
 ghost use Rattle.session.specs.Machine.{sessionOf};
 ghost use Rattle.page.specs.Calls.{over-limit, seal-number, seal-out, seal-tag, open-number, open-out};
-ghost use Rattle.page.specs.Inner.{tag-over};
+ghost use Rattle.page.specs.Inner.{before-tag, tag-over};
 use session::Session;
 use words::Block;
 
@@ -71,20 +71,17 @@ fn tag_over(s: Session, cipher: &[u8], table: &[u64; 1024]) -> Block
 {
     let h = s.h;
     let d = s.held;
+    let n = cipher.len() as u64;
     let e = digest::absorb_with(h, d, 0, cipher, table);
+    let y = digest::settle_with(h, e, n, table);
     let mut u = s;
-    u.phase = 1;
-    u.text = cipher.len() as u64;
-    u.held = e;
-    session::lent::tag_with(u, table)
+    u.text = n;
+    session::lent::tag_from(u, y, table)
 }
 
-// Opens a page: the text goes to the front of the output, as many bytes as the ciphertext has, if the tag is the one that the data and the
-// ciphertext have, which is known before a byte is written. Refused: 1 for the key's length, 2 for the IV's, 10 for the tag's, 3 for data over
-// 65,535 bytes or a ciphertext over 1,048,576, 4 for an output shorter than the ciphertext, 5 for any other tag.
-pub fn open(key: &[u8], iv: &[u8], ad: &[u8], cipher: &[u8], tag: &[u8], out: &mut [u8]) -> u64
-    ensures answer { λ r. ⌜ r ≡ open-number (now (key .entry)) (now (iv .entry)) (now (ad .entry)) (now (cipher .entry)) (now (tag .entry)) (now (out .entry)) ⌝ }
-    ensures out { λ _. ⌜ now (out .exit) ≡ open-out (now (key .entry)) (now (iv .entry)) (now (ad .entry)) (now (cipher .entry)) (now (tag .entry)) (now (out .entry)) ⌝ }
+// The number of an open before its tag is compared: 1 for the key's length, 2 for the IV's, 10 for the tag's, 3 and 4.
+fn before_tag(key: &[u8], iv: &[u8], ad: &[u8], cipher: &[u8], tag: &[u8], out: &[u8]) -> u64
+    ensures { λ r. ⌜ r ≡ before-tag (now (key .entry)) (now (iv .entry)) (now (ad .entry)) (now (cipher .entry)) (now (tag .entry)) (now (out .entry)) 0 ⌝ }
 {
     let n = start::lengths(key, iv);
     if n != 0 {
@@ -98,6 +95,20 @@ pub fn open(key: &[u8], iv: &[u8], ad: &[u8], cipher: &[u8], tag: &[u8], out: &m
     }
     if out.len() < cipher.len() {
         return scope::SHORT_OUTPUT;
+    }
+    scope::ACCEPTED
+}
+
+// Opens a page: the text goes to the front of the output, as many bytes as the ciphertext has, if the tag is the one that the data and the
+// ciphertext have, which is known before a byte is written. Refused: 1 for the key's length, 2 for the IV's, 10 for the tag's, 3 for data over
+// 65,535 bytes or a ciphertext over 1,048,576, 4 for an output shorter than the ciphertext, 5 for any other tag.
+pub fn open(key: &[u8], iv: &[u8], ad: &[u8], cipher: &[u8], tag: &[u8], out: &mut [u8]) -> u64
+    ensures answer { λ r. ⌜ r ≡ open-number (now (key .entry)) (now (iv .entry)) (now (ad .entry)) (now (cipher .entry)) (now (tag .entry)) (now (out .entry)) ⌝ }
+    ensures out { λ _. ⌜ now (out .exit) ≡ open-out (now (key .entry)) (now (iv .entry)) (now (ad .entry)) (now (cipher .entry)) (now (tag .entry)) (now (out .entry)) ⌝ }
+{
+    let n = before_tag(key, iv, ad, cipher, tag, out);
+    if n != 0 {
+        return n;
     }
     let b = session::begin(key, iv);
     let begun = b.session;

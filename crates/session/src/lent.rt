@@ -4,8 +4,9 @@ ghost use mathlib.Core.Path.{_≡_};
 ghost use mathlib.Core.List.{_++_};
 ghost use Prim.Native.Nat.{_+_, _%_, _^_, _<_, _≤_};
 ghost use lib.ListN.{length, drop};
+ghost use Rattle.words.specs.Xor.{xors};
 ghost use Rattle.words.specs.Machine.{bytesOf};
-ghost use Rattle.ghash.specs.Hash.{lengths};
+ghost use Rattle.ghash.specs.Hash.{lengths, eat};
 ghost use Rattle.ghash.specs.Machine.{bytesOfElement, Table};
 ghost use Rattle.session.specs.Pieces.{data-taken, closed, tag-of, text-taken, text-out};
 ghost use Rattle.session.specs.Machine.{sessionOf};
@@ -66,18 +67,27 @@ fn bits(ad: u64, text: u64) -> Block
     })
 }
 
-// The hash of all, both lengths last, xor the end pad.
+// The tag of a session whose data and ciphertext, each padded, have the hash y: both lengths last, xor the end pad.
+pub fn tag_from(s: Session, y: Element, table: &[u64; 1024]) -> Block
+    requires { ⌜ Table (bytesOfElement (s .h)) (now table) ⌝ }
+    ensures { λ r. ⌜ bytesOf r ≡ xors (eat (bytesOfElement (s .h)) (bytesOfElement y) (lengths (s .ad) (s .text))) (bytesOf (s .pad)) ⌝ }
+{
+    let h = s.h;
+    let pad = s.pad;
+    let v = ghash::absorb(y, bits(s.ad, s.text), h, table);
+    words::xor(ghash::to_block(v), pad)
+}
+
+// The tag of a session: what is held is padded and hashed.
 pub fn tag_with(s: Session, table: &[u64; 1024]) -> Block
     requires { ⌜ Table (bytesOfElement (s .h)) (now table) ⌝ }
     ensures { λ r. ⌜ bytesOf r ≡ tag-of (sessionOf s) ⌝ }
 {
     let h = s.h;
-    let pad = s.pad;
     let u = close_with(s, table);
     let d = u.held;
     let y = digest::settle_with(h, d, s.text, table);
-    let v = ghash::absorb(y, bits(s.ad, s.text), h, table);
-    words::xor(ghash::to_block(v), pad)
+    tag_from(s, y, table)
 }
 
 // What `text` would write, from the start of a block on, with nothing hashed: of a ciphertext, its text.

@@ -1,9 +1,9 @@
--- `session::lent::tag_with` meets its contract: the data closed, the text settled, both lengths, the end pad.
+-- `session::lent::tag_with` meets its contract: the data closed, the text settled, and the tag from there.
 use Prim.Native.Nat.{ℕ}
-use mathlib.Core.Path.{ap, ap₂, _∙_}
+use mathlib.Core.Path.{ap, _∙_}
 use mathlib.Core.List.{List}
 use Rattle.words.specs.Xor.{xors}
-use Rattle.ghash.specs.Hash.{eat}
+use Rattle.ghash.specs.Hash.{lengths, eat}
 use Rattle.digest.specs.Digest.{settled}
 use Rattle.session.specs.Session.{Session}
 use Rattle.session.specs.Pieces.{tag-of}
@@ -15,19 +15,14 @@ use Rattle.session.proofs.lent.tag_with.Tie as tie
 returns : tie.Need-returns
 unfolding tag-of
 returns c =
-    let s = sessionOf (c .before .before .before .before .before .before .before .before .before .args .s) in
-    let text = c .before .before .before .before .settle-with .ensures ∙ ap (λ (u : Session). settled (s .h) (u .sum) (s .text)) (c .before .before .before .before .before .before .close-with .ensures) in
-    c .xor .ensures
-    ∙ ap (λ (x : List ℕ). xors x (s .pad)) (c .before .to-block .ensures ∙ c .before .before .absorb .ensures ∙ ap₂ (eat (s .h)) text (c .before .before .before .bits .ensures))
+    let y = c .before in
+    let u = y .before .before in
+    let s = sessionOf (u .before .before .args .s) in
+    c .tag-from .ensures
+    ∙ ap (λ (x : List ℕ). xors (eat (s .h) x (lengths (s .ad) (s .text))) (s .pad))
+    (y .settle-with .ensures ∙ ap (λ (v : Session). settled (s .h) (v .sum) (s .text)) (u .close-with .ensures))
 
 pub tag-with-spec : {M : Type 1} → statement M
 tag-with-spec =
     tie.close
-    (tie.spec
-    (λ c κs. search needs)
-    (λ c κs. c .before .before .before .before .pre)
-    (λ c κs. search needs)
-    (λ c κs. c .before .before .before .before .before .before .pre)
-    (λ c κs. search needs)
-    (λ c κs. search needs)
-    returns)
+    (tie.spec (λ c κs. search needs) (λ c κs. c .before .before .before .pre) (λ c κs. c .before .before .before .before .pre) returns)
