@@ -60,7 +60,14 @@ module _ (key iv : List ℕ) where
       let a : cipher-of key iv (text-of g) ++ c ≡ cipher-of key iv (text-of g ++ p .list) =
       ap (λ (n : ℕ). cipher-of key iv (text-of g) ++ encrypted key iv n (p .list)) (sym (zero-add (length (text-of g))))
       ∙ sym (encrypted-append key iv 0 (text-of g) (p .list)) in
-      rw (text-call-at key iv g (p .list) (out .list) fits room, w, a, or-true (text-begun-of g))
+      rw (text-call-at key iv g (p .list) (out .list) fits room)
+      (λ i. record {
+        session = session-at key iv (taking-text (ad-of g) (text-of g ++ p .list));
+        ad = ad-of g;
+        text = text-of g ++ p .list;
+        cipher = (ap (λ (l : List ℕ). cipher-of key iv (text-of g) ++ l) w ∙ a) i;
+        text-begun = or-true (text-begun-of g) i;
+      })
 
   -- ---- a refused one
 
