@@ -206,20 +206,32 @@ static inline void forward(struct state *s, u32 z[4])
     clock8(s);
 }
 
-/* The clocks go first: R3 had the old a0 to a7 xored in. */
-static inline void backward(struct state *s, u32 z[4])
+/* What of the step that led to a state does not hang on register A: R1 and R2 before it, and its z. */
+static inline void z_before(const struct state *s, u32 o1[4], u32 o2[4], u32 z[4])
 {
-    u32 o1[4], o2[4], n1[4];
     aes_unround(o1, s->r2);
     aes_unround(o2, s->r3);
     for (int i = 0; i < 4; i++)
         z[i] = (o1[i] + pair(s->b + 2 * i)) ^ o2[i];
+}
+
+/* The state before that step. The clocks go first: R3 had the old a0 to a7 xored in. */
+static inline void state_before(struct state *s, const u32 o1[4], const u32 o2[4])
+{
+    u32 n1[4];
     unclock8(s);
     sigma(n1, s->r1);
     for (int i = 0; i < 4; i++)
         s->r3[i] = (n1[i] - o2[i]) ^ pair(s->a + 2 * i);
-    memcpy(s->r1, o1, sizeof o1);
-    memcpy(s->r2, o2, sizeof o2);
+    memcpy(s->r1, o1, sizeof n1);
+    memcpy(s->r2, o2, sizeof n1);
+}
+
+static inline void backward(struct state *s, u32 z[4])
+{
+    u32 o1[4], o2[4];
+    z_before(s, o1, o2, z);
+    state_before(s, o1, o2);
 }
 
 /* ---- start and trace */
@@ -274,16 +286,13 @@ static void start(struct state *s, const u8 *key, const u8 *iv, int sealed)
     xor_into(s->r1, high);
 }
 
-/* One of the 16 steps of a start, undone. Its z does not hang on register A. */
+/* One of the 16 steps of a start, undone. */
 static inline void uninitial(struct state *s)
 {
     u32 o1[4], o2[4], z[4];
-    aes_unround(o1, s->r2);
-    aes_unround(o2, s->r3);
-    for (int i = 0; i < 4; i++)
-        z[i] = (o1[i] + pair(s->b + 2 * i)) ^ o2[i];
+    z_before(s, o1, o2, z);
     into_a(s, z);
-    backward(s, z);
+    state_before(s, o1, o2);
 }
 
 static inline int holds(const u16 *c, const u32 x[4])
@@ -630,7 +639,7 @@ uint64_t same_resume(const uint8_t *key, const uint8_t *block, uint8_t *session,
 {
     struct session s;
     struct state t;
-    u32 x[4];
+    u32 x[4], o1[4], o2[4];
     u8 mode, found[16];
     if (!well_laid(block))
         return 8;
@@ -649,8 +658,7 @@ uint64_t same_resume(const uint8_t *key, const uint8_t *block, uint8_t *session,
     forward(&t, x);
     s.h = from_block(x);
     forward(&t, s.pad);
-    t = s.state;
-    backward(&t, s.current);
+    z_before(&s.state, o1, o2, s.current);
     store_session(session, &s);
     memcpy(iv, found, 16);
     return 0;
