@@ -4,22 +4,14 @@ use mathlib.Core.Path.{_≡_}
 use Rattle.words.specs.Machine.{bytesOf}
 use Rattle.lfsr.specs.Machine.{lfsrOf}
 use Rattle.cipher.specs.declared.State.{State}
-use Rattle.cipher.specs.declared.Before.{Before}
 use Rattle.cipher.specs.declared.Moved.{Moved}
 use Rattle.cipher.specs.declared.Stepped.{Stepped}
 use Rattle.cipher.specs.Registers.{Registers}
-use Rattle.cipher.specs.Back.{back, z-before}
 use Rattle.cipher.specs.Run.{move, made}
 
 -- the registers that the code's state holds
 abbrev pub registersOf : State → Registers
 registersOf s = record { lfsr = lfsrOf (s .lfsr); r1 = bytesOf (s .r1); r2 = bytesOf (s .r2); r3 = bytesOf (s .r3) }
-
--- what of the step that led to s does not hang on register A: R1 and R2 before it, and its z
-pub record Precedes (s : State) (p : Before) : Type 0 where
-  pub r1 : bytesOf (p .r1) ≡ back (registersOf s) .r1
-  pub r2 : bytesOf (p .r2) ≡ back (registersOf s) .r2
-  pub z : bytesOf (p .z) ≡ z-before (registersOf s)
 
 -- one step in a direction, from s: the state and the block
 pub record Moves (d : Bool) (s : State) (r : Moved) : Type 0 where

@@ -12,7 +12,8 @@ use Rattle.cipher.specs.Step.{z, step}
 use Rattle.cipher.specs.Back.{back, z-before}
 use Rattle.cipher.specs.declared.State.{State}
 use Rattle.cipher.specs.declared.Before.{Before}
-use Rattle.cipher.specs.Machine.{registersOf, Precedes}
+use Rattle.cipher.specs.Machine.{registersOf}
+use Rattle.cipher.specs.Inner.{Precedes}
 use Rattle.cipher.proofs.Inverse.{z-block, step-good, back-good, back-step, step-back, z-before-step, z-before-is}
 use Rattle.start.specs.Start.{Mode, Mode.plain, Mode.sealed, mode-cells, load, into-a, into-r1, initial, initials, start}
 use Rattle.start.specs.Trace.{uninitial, uninitials, loaded}
