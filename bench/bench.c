@@ -1,6 +1,7 @@
 /* Measures every peer on every row of the table, in one run and on the same buffers, and writes a line of CSV for each.
  *
  *   bench                         everything; OpenSSL also in a child process whose OPENSSL_ia32cap masks AES and carry-less multiplication
+ *   bench row TASK SIZE           one row, for measuring it in many processes
  *   bench once PEER TASK SIZE     one call, for counting instructions
  *
  * A round goes over all rows, and in a row over all peers, there and back by turns, so that noise hits all alike; the child takes its turn among
@@ -26,9 +27,9 @@
 /* AES (bit 57) and PCLMULQDQ (33) of leaf 1; VAES and VPCLMULQDQ (41 and 42) of leaf 7. */
 #define MASK "~0x200000200000000:~0x60000000000"
 
-uint8_t key[32], iv[16], text[MOST_TEXT], zeros[16 * MOST_BLOCKS];
+uint8_t key[32], iv[16], text[MOST_TEXT], zeros[MOST_TEXT];
 
-static uint8_t out[16 * MOST_BLOCKS], expected[16 * MOST_BLOCKS], tag[16], expected_tag[16], found[16];
+static uint8_t out[MOST_TEXT], expected[MOST_TEXT], tag[16], expected_tag[16], found[16];
 
 enum task { KEYSTREAM, SEAL, TRACE, RESUME, BACK };
 
@@ -36,24 +37,22 @@ static const struct row {
     const char *name;
     enum task task;
     size_t size; /* bytes, or blocks drawn */
-    int ours_alone;
 } rows[] = {
-    {"keystream", KEYSTREAM, 64, 0},
-    {"keystream", KEYSTREAM, 1024, 0},
-    {"keystream", KEYSTREAM, 16384, 0},
-    {"keystream", KEYSTREAM, 1048576, 0},
-    {"seal", SEAL, 64, 0},
-    {"seal", SEAL, 1024, 0},
-    {"seal", SEAL, 16384, 0},
-    {"seal", SEAL, 1048576, 0},
-    {"start", KEYSTREAM, 0, 0},
-    {"trace", TRACE, 2, 0},
-    {"trace", TRACE, 65538, 0},
-    {"resume", RESUME, 2, 0},
-    {"resume", RESUME, 65538, 0},
-    /* What resuming and running back are held against. */
-    {"keystream", KEYSTREAM, 16 * 65538, 1},
-    {"back", BACK, 1048576, 1},
+    {"keystream", KEYSTREAM, 64},
+    {"keystream", KEYSTREAM, 1024},
+    {"keystream", KEYSTREAM, 16384},
+    {"keystream", KEYSTREAM, 1048576},
+    {"seal", SEAL, 64},
+    {"seal", SEAL, 474}, /* the text of a page in a file of pages */
+    {"seal", SEAL, 1024},
+    {"seal", SEAL, 16384},
+    {"seal", SEAL, 1048576},
+    {"start", KEYSTREAM, 0},
+    {"trace", TRACE, 2},
+    {"trace", TRACE, 65538},
+    {"resume", RESUME, 2},
+    {"resume", RESUME, 65538},
+    {"back", BACK, 1048576},
 };
 
 #define ROWS (sizeof rows / sizeof *rows)
@@ -65,6 +64,15 @@ static void fail(const char *what, const char *who)
 {
     fprintf(stderr, "bench: %s: %s\n", who, what);
     exit(1);
+}
+
+static const struct row *row(const char *task, const char *size)
+{
+    for (size_t i = 0; i < ROWS; i++)
+        if (strcmp(rows[i].name, task) == 0 && rows[i].size == strtoul(size, NULL, 10))
+            return rows + i;
+    fail("no such row", task);
+    return NULL;
 }
 
 static double read_clock(clockid_t clock)
@@ -80,7 +88,7 @@ static double all_wall, all_processor;
 static int can(const struct peer *p, const struct row *r)
 {
     switch (r->task) {
-    case KEYSTREAM: return p->keystream != NULL && (!r->ours_alone || p == peers);
+    case KEYSTREAM: return p->keystream != NULL;
     case SEAL: return p->seal != NULL;
     case TRACE: return p->trace != NULL;
     case RESUME: return p->resume != NULL;
@@ -323,16 +331,17 @@ static int by_value(const void *a, const void *b)
     return (x > y) - (x < y);
 }
 
-static int measure(const char *program, int rounds)
+/* All rows, or one; of one, nothing masked. */
+static int measure(const char *program, int rounds, const struct row *only)
 {
     static struct column columns[MOST_COLUMNS];
     static long times[ROWS][MOST_COLUMNS];
     size_t count = 0;
     double *ns;
     uint8_t its_tag[16];
-    const char *openssl = openssl_version();
+    const char *openssl = only == NULL ? openssl_version() : NULL;
 
-    for (int masked = 0; masked < 2; masked++)
+    for (int masked = 0; masked < (openssl != NULL ? 2 : 1); masked++)
         for (size_t i = 0; i < peer_count; i++)
             if (!masked || !peers[i].is_snow_v)
                 columns[count++] = (struct column){i, masked};
@@ -343,7 +352,8 @@ static int measure(const char *program, int rounds)
         fail("no memory", program);
 
     for (size_t i = 0; i < ROWS; i++)
-        compare(rows + i);
+        if (only == NULL || only == rows + i)
+            compare(rows + i);
     fprintf(stderr, "all results agree\n");
     if (openssl != NULL)
         printf("# OpenSSL: %s\n# masked: OPENSSL_ia32cap=%s\n", openssl, MASK);
@@ -352,7 +362,7 @@ static int measure(const char *program, int rounds)
     /* How often a call has to be repeated; the masked OpenSSL gives the tags of the other. */
     for (size_t i = 0; i < ROWS; i++)
         for (size_t j = 0; j < count; j++)
-            if (can(peers + columns[j].peer, rows + i)) {
+            if ((only == NULL || only == rows + i) && can(peers + columns[j].peer, rows + i)) {
                 double once;
                 column_timed(columns + j, i, 1, its_tag);
                 once = column_timed(columns + j, i, 1, its_tag);
@@ -390,19 +400,19 @@ static int measure(const char *program, int rounds)
     return 0;
 }
 
-static int once(const char *peer, const char *task, size_t size)
+static int once(const char *peer, const struct row *r)
 {
-    for (size_t i = 0; i < ROWS; i++)
-        for (size_t j = 0; j < peer_count; j++)
-            if (strcmp(rows[i].name, task) == 0 && rows[i].size == size && strcmp(peers[j].name, peer) == 0 && can(peers + j, rows + i))
-                return call(peers + j, rows + i);
+    for (size_t j = 0; j < peer_count; j++)
+        if (strcmp(peers[j].name, peer) == 0 && can(peers + j, r))
+            return call(peers + j, r);
     fail("no such call", peer);
     return 1;
 }
 
 int main(int argc, char **argv)
 {
-    const char *rounds = getenv("BENCH_ROUNDS");
+    const char *given = getenv("BENCH_ROUNDS");
+    int rounds = given == NULL || atoi(given) < 1 ? ROUNDS : atoi(given);
     fill_inputs();
     if (argc == 2 && strcmp(argv[1], "serve") == 0) {
         serve();
@@ -410,6 +420,6 @@ int main(int argc, char **argv)
     }
     suspend_sessions();
     if (argc == 5 && strcmp(argv[1], "once") == 0)
-        return once(argv[2], argv[3], (size_t)strtoul(argv[4], NULL, 10));
-    return measure(argv[0], rounds == NULL || atoi(rounds) < 1 ? ROUNDS : atoi(rounds));
+        return once(argv[2], row(argv[3], argv[4]));
+    return measure(argv[0], rounds, argc == 4 && strcmp(argv[1], "row") == 0 ? row(argv[2], argv[3]) : NULL);
 }

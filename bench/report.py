@@ -1,5 +1,5 @@
 #!/usr/bin/env python3
-"""Makes table.md and chart.svg of the results.csv in a directory, and prints the table.
+"""Makes table.md and chart.svg of the results.csv and processes.csv in a directory, and prints the table.
 
     report.py DIRECTORY [DOCUMENT]
 
@@ -8,12 +8,17 @@ A document gets what stands in the directory's table.md and counts.md, each betw
 import csv
 import math
 import re
+import statistics
 import sys
+import textwrap
 from pathlib import Path
 
 OURS, SAME, PORTABLE = "tulvekas", "same in C", "portable C"
 AES, AES_MASKED = "AES-256-GCM", "AES-256-GCM masked"
 MIB = 1048576
+
+# The library and the C go back by one algorithm: from run to run trace takes 0.95 to 1.08 of C's time, and resuming 0.94 to 1.05.
+BACK = 1.1
 
 
 def read(path):
@@ -32,6 +37,21 @@ def read(path):
         row = rows.setdefault((line["task"], int(line["size"])), {})
         row[peer] = float(line["best ns"]), float(line["median ns"])
     return said, peers, rows
+
+
+def read_processes(path):
+    """{(task, size): {peer: [best of each process]}}; nothing where there is no such file."""
+    rows = {}
+    if path.exists():
+        with open(path) as f:
+            for line in csv.DictReader(f):
+                rows.setdefault((line["task"], int(line["size"])), {}).setdefault(line["peer"], []).append(float(line["best ns"]))
+    return rows
+
+
+def ratios(row, above, below):
+    """Of each process, in order."""
+    return sorted(a / b for a, b in zip(row[above], row[below]))
 
 
 def label(row):
@@ -62,34 +82,54 @@ def markdown(head, body):
     yield ""
 
 
-def goals(rows):
+def goals(rows, processes):
     """What was asked, the figure, and whether it is reached; figures of peers that are missing are left out."""
     def ratio(row, above, below):
         at = rows[row]
         return at[above][0] / at[below][0] if above in at and below in at else None
 
-    keystream, seal = ("keystream", MIB), ("seal", MIB)
+    keystream, seal, trace, resume = ("keystream", MIB), ("seal", MIB), ("trace", 65538), ("resume", 65538)
     asked = [
-        ("keystream of 1 MiB as fast as the portable C", ratio(keystream, PORTABLE, OURS), "at least", 1.5),
-        ("sealing 1 MiB as fast as the portable C", ratio(seal, PORTABLE, OURS), "at least", 25),
-        ("sealing 1 MiB as fast as OpenSSL's AES-256-GCM, masked", ratio(seal, AES_MASKED, OURS), "at least", 1.5),
-        ("keystream of 1 MiB takes as long as the same algorithms in C", ratio(keystream, OURS, SAME), "at most", 1.3),
-        ("sealing 1 MiB takes as long as the same algorithms in C", ratio(seal, OURS, SAME), "at most", 1.3),
-        ("1 MiB back takes as long as forward", rows[("back", MIB)][OURS][0] / rows[keystream][OURS][0], "at most", 5),
-        ("resuming after 1 MiB takes as long as drawing 65,538 blocks forward",
-         rows[("resume", 65538)][OURS][0] / rows[("keystream", 1048608)][OURS][0], "at most", 6),
+        ("keystream of 1 MiB as fast as the portable C", ratio(keystream, PORTABLE, OURS), "at least", 3),
+        ("sealing 1 MiB as fast as the portable C", ratio(seal, PORTABLE, OURS), "at least", 45),
+        ("sealing 1 MiB as fast as OpenSSL's AES-256-GCM, masked", ratio(seal, AES_MASKED, OURS), "at least", 2.5),
+        ("keystream of 1 MiB takes as long as the same algorithms in C", ratio(keystream, OURS, SAME), "at most", 1.15),
+        ("sealing 1 MiB takes as long as the same algorithms in C", ratio(seal, OURS, SAME), "at most", 1.15),
+        ("trace of 65,538 blocks takes as long as the same algorithms in C", ratio(trace, OURS, SAME), "at most", BACK),
+        ("resuming after 65,538 blocks takes as long as the same algorithms in C", ratio(resume, OURS, SAME), "at most", BACK),
     ]
+    if keystream in processes:
+        median = statistics.median(ratios(processes[keystream], PORTABLE, OURS))
+        asked[0] = "keystream of 1 MiB as fast as the portable C, median of processes", median, "at least", 3
     for what, figure, bound, limit in asked:
         if figure is not None:
             reached = figure >= limit if bound == "at least" else figure <= limit
             yield what, figure, f"{bound} {limit:g}", "yes" if reached else "no"
 
 
-def table(said, peers, rows):
-    shown = [row for row in rows if row[0] != "back" and row[1] != 1048608]
+def each(processes):
+    """The ratios in process after process."""
+    for task, what in (("keystream", "Keystream of 1 MiB"), ("seal", "Sealing 1 MiB")):
+        row = processes.get((task, MIB), {})
+        for peer, how, above, below in ((PORTABLE, "how many times as fast as the portable C", PORTABLE, OURS),
+                                        (SAME, "how many times as long as the same algorithms in C", OURS, SAME)):
+            if peer in row:
+                found = ratios(row, above, below)
+                shown = ", ".join(f"{r:.2f}" for r in found)
+                yield from textwrap.wrap(f"{what} in {len(found)} processes, {how}: {shown}; the median {statistics.median(found):.2f}.", 140)
+                yield ""
+
+
+def compared(rows):
+    """The rows that more than one implementation has."""
+    return [row for row in rows if len(rows[row]) > 1]
+
+
+def table(said, peers, rows, processes):
+    shown = compared(rows)
     yield "How long a call takes, best of " + said["rounds"] + " rounds:"
     yield ""
-    yield from markdown([""] + peers, [[label(row)] + [time(rows[row][p][0]) if p in rows[row] else "-" for p in peers] for row in shown])
+    yield from markdown([""] + peers, [[label(row)] + [time(rows[row][p][0]) if p in rows[row] else "-" for p in peers] for row in rows])
     yield "How many times as fast as the peer the proved library is; below 1 the peer is faster:"
     yield ""
     others = [p for p in peers if p != OURS]
@@ -102,7 +142,8 @@ def table(said, peers, rows):
     yield "What was asked:"
     yield ""
     yield from markdown(["", "times", "asked", "reached"], [
-        [what, f"{figure:.3f}" if figure < 10 else f"{figure:.1f}", asked, reached] for what, figure, asked, reached in goals(rows)])
+        [what, f"{figure:.3f}" if figure < 10 else f"{figure:.1f}", asked, reached] for what, figure, asked, reached in goals(rows, processes)])
+    yield from each(processes)
     spread = sorted(median / best for row in rows.values() for best, median in row.values())
     yield f"All calls of the library ran on a thread with a stack of 64 KiB and wrote {said['stack'].split()[0]} bytes of it."
     yield ""
@@ -123,7 +164,7 @@ def chart(peers, rows):
     """For each row a bar for each peer: the peer's time over ours, on a logarithmic axis around 1."""
     others = [p for p in peers if p != OURS]
     colour = dict(zip(others, COLOURS))
-    shown = [row for row in rows if row[0] != "back" and row[1] != 1048608]
+    shown = compared(rows)
     bar, gap, left, width, top = 11, 12, 190, 640, 96
     powers = [math.log2(rows[r][p][0] / rows[r][OURS][0]) for r in shown for p in others if p in rows[r]]
     low, high = math.floor(min(powers) - 0.3), math.ceil(max(powers) + 0.3)
@@ -168,7 +209,7 @@ def chart(peers, rows):
 def main():
     results = Path(sys.argv[1])
     said, peers, rows = read(results / "results.csv")
-    text = "\n".join(table(said, peers, rows)) + "\n"
+    text = "\n".join(table(said, peers, rows, read_processes(results / "processes.csv"))) + "\n"
     (results / "table.md").write_text(text)
     (results / "chart.svg").write_text("\n".join(chart(peers, rows)) + "\n")
     print(text, end="")

@@ -1,7 +1,9 @@
-/* The algorithms of the proved library (crates words, lfsr, aes, cipher, start, ghash, digest, session, page and suspend) in C: the AES round by
- * the S-box of bytes with MixColumns on the four bytes of a word, eight clocks at once, GHASH by H's multiples by every four bits at each of 32
- * places, made in each call that hashes a whole block, a page as begin, data, text and finish. Structs go by pointer, as C does it, and the
- * tables are static. What a call here leaves out of its Rattle counterpart is the test of its arguments' lengths. */
+/* The algorithms of the proved library (crates words, lfsr, aes, wide_round, cipher, start, ghash, digest, session, page and suspend) in C: the
+ * registers clocked up to 16 steps ahead, with T1 and T2 left in lanes of cells; R1 and R2 in lanes of bytes, which the AES round looks up in
+ * a table of words; GHASH by H's multiples by every four bits at each of 32 places, looked up by bytes in the loop of the steps; a page as begin,
+ * data, text and tag over one table of H. The way back goes a step at a time, by the inverse S-box of bytes. Structs go by pointer, as C does it,
+ * and the table of words and the inverse S-box are static. What a call here leaves out of its Rattle counterpart is the test of its arguments'
+ * lengths. */
 
 #include "same.h"
 
@@ -12,21 +14,34 @@ typedef uint16_t u16;
 typedef uint32_t u32;
 typedef uint64_t u64;
 
-/* FIPS 197, figures 7 and 14. */
-static const u8 sbox[256] = {
-    0x63, 0x7c, 0x77, 0x7b, 0xf2, 0x6b, 0x6f, 0xc5, 0x30, 0x01, 0x67, 0x2b, 0xfe, 0xd7, 0xab, 0x76, 0xca, 0x82, 0xc9, 0x7d, 0xfa, 0x59,
-    0x47, 0xf0, 0xad, 0xd4, 0xa2, 0xaf, 0x9c, 0xa4, 0x72, 0xc0, 0xb7, 0xfd, 0x93, 0x26, 0x36, 0x3f, 0xf7, 0xcc, 0x34, 0xa5, 0xe5, 0xf1,
-    0x71, 0xd8, 0x31, 0x15, 0x04, 0xc7, 0x23, 0xc3, 0x18, 0x96, 0x05, 0x9a, 0x07, 0x12, 0x80, 0xe2, 0xeb, 0x27, 0xb2, 0x75, 0x09, 0x83,
-    0x2c, 0x1a, 0x1b, 0x6e, 0x5a, 0xa0, 0x52, 0x3b, 0xd6, 0xb3, 0x29, 0xe3, 0x2f, 0x84, 0x53, 0xd1, 0x00, 0xed, 0x20, 0xfc, 0xb1, 0x5b,
-    0x6a, 0xcb, 0xbe, 0x39, 0x4a, 0x4c, 0x58, 0xcf, 0xd0, 0xef, 0xaa, 0xfb, 0x43, 0x4d, 0x33, 0x85, 0x45, 0xf9, 0x02, 0x7f, 0x50, 0x3c,
-    0x9f, 0xa8, 0x51, 0xa3, 0x40, 0x8f, 0x92, 0x9d, 0x38, 0xf5, 0xbc, 0xb6, 0xda, 0x21, 0x10, 0xff, 0xf3, 0xd2, 0xcd, 0x0c, 0x13, 0xec,
-    0x5f, 0x97, 0x44, 0x17, 0xc4, 0xa7, 0x7e, 0x3d, 0x64, 0x5d, 0x19, 0x73, 0x60, 0x81, 0x4f, 0xdc, 0x22, 0x2a, 0x90, 0x88, 0x46, 0xee,
-    0xb8, 0x14, 0xde, 0x5e, 0x0b, 0xdb, 0xe0, 0x32, 0x3a, 0x0a, 0x49, 0x06, 0x24, 0x5c, 0xc2, 0xd3, 0xac, 0x62, 0x91, 0x95, 0xe4, 0x79,
-    0xe7, 0xc8, 0x37, 0x6d, 0x8d, 0xd5, 0x4e, 0xa9, 0x6c, 0x56, 0xf4, 0xea, 0x65, 0x7a, 0xae, 0x08, 0xba, 0x78, 0x25, 0x2e, 0x1c, 0xa6,
-    0xb4, 0xc6, 0xe8, 0xdd, 0x74, 0x1f, 0x4b, 0xbd, 0x8b, 0x8a, 0x70, 0x3e, 0xb5, 0x66, 0x48, 0x03, 0xf6, 0x0e, 0x61, 0x35, 0x57, 0xb9,
-    0x86, 0xc1, 0x1d, 0x9e, 0xe1, 0xf8, 0x98, 0x11, 0x69, 0xd9, 0x8e, 0x94, 0x9b, 0x1e, 0x87, 0xe9, 0xce, 0x55, 0x28, 0xdf, 0x8c, 0xa1,
-    0x89, 0x0d, 0xbf, 0xe6, 0x42, 0x68, 0x41, 0x99, 0x2d, 0x0f, 0xb0, 0x54, 0xbb, 0x16};
+/* The S-box of FIPS 197, figure 7, each byte as a column of MixColumns: times 2, 1, 1 and 3, low byte first. */
+static const u32 wide[256] = {
+    0xa56363c6, 0x847c7cf8, 0x997777ee, 0x8d7b7bf6, 0x0df2f2ff, 0xbd6b6bd6, 0xb16f6fde, 0x54c5c591, 0x50303060, 0x03010102, 0xa96767ce,
+    0x7d2b2b56, 0x19fefee7, 0x62d7d7b5, 0xe6abab4d, 0x9a7676ec, 0x45caca8f, 0x9d82821f, 0x40c9c989, 0x877d7dfa, 0x15fafaef, 0xeb5959b2,
+    0xc947478e, 0x0bf0f0fb, 0xecadad41, 0x67d4d4b3, 0xfda2a25f, 0xeaafaf45, 0xbf9c9c23, 0xf7a4a453, 0x967272e4, 0x5bc0c09b, 0xc2b7b775,
+    0x1cfdfde1, 0xae93933d, 0x6a26264c, 0x5a36366c, 0x413f3f7e, 0x02f7f7f5, 0x4fcccc83, 0x5c343468, 0xf4a5a551, 0x34e5e5d1, 0x08f1f1f9,
+    0x937171e2, 0x73d8d8ab, 0x53313162, 0x3f15152a, 0x0c040408, 0x52c7c795, 0x65232346, 0x5ec3c39d, 0x28181830, 0xa1969637, 0x0f05050a,
+    0xb59a9a2f, 0x0907070e, 0x36121224, 0x9b80801b, 0x3de2e2df, 0x26ebebcd, 0x6927274e, 0xcdb2b27f, 0x9f7575ea, 0x1b090912, 0x9e83831d,
+    0x742c2c58, 0x2e1a1a34, 0x2d1b1b36, 0xb26e6edc, 0xee5a5ab4, 0xfba0a05b, 0xf65252a4, 0x4d3b3b76, 0x61d6d6b7, 0xceb3b37d, 0x7b292952,
+    0x3ee3e3dd, 0x712f2f5e, 0x97848413, 0xf55353a6, 0x68d1d1b9, 0x00000000, 0x2cededc1, 0x60202040, 0x1ffcfce3, 0xc8b1b179, 0xed5b5bb6,
+    0xbe6a6ad4, 0x46cbcb8d, 0xd9bebe67, 0x4b393972, 0xde4a4a94, 0xd44c4c98, 0xe85858b0, 0x4acfcf85, 0x6bd0d0bb, 0x2aefefc5, 0xe5aaaa4f,
+    0x16fbfbed, 0xc5434386, 0xd74d4d9a, 0x55333366, 0x94858511, 0xcf45458a, 0x10f9f9e9, 0x06020204, 0x817f7ffe, 0xf05050a0, 0x443c3c78,
+    0xba9f9f25, 0xe3a8a84b, 0xf35151a2, 0xfea3a35d, 0xc0404080, 0x8a8f8f05, 0xad92923f, 0xbc9d9d21, 0x48383870, 0x04f5f5f1, 0xdfbcbc63,
+    0xc1b6b677, 0x75dadaaf, 0x63212142, 0x30101020, 0x1affffe5, 0x0ef3f3fd, 0x6dd2d2bf, 0x4ccdcd81, 0x140c0c18, 0x35131326, 0x2fececc3,
+    0xe15f5fbe, 0xa2979735, 0xcc444488, 0x3917172e, 0x57c4c493, 0xf2a7a755, 0x827e7efc, 0x473d3d7a, 0xac6464c8, 0xe75d5dba, 0x2b191932,
+    0x957373e6, 0xa06060c0, 0x98818119, 0xd14f4f9e, 0x7fdcdca3, 0x66222244, 0x7e2a2a54, 0xab90903b, 0x8388880b, 0xca46468c, 0x29eeeec7,
+    0xd3b8b86b, 0x3c141428, 0x79dedea7, 0xe25e5ebc, 0x1d0b0b16, 0x76dbdbad, 0x3be0e0db, 0x56323264, 0x4e3a3a74, 0x1e0a0a14, 0xdb494992,
+    0x0a06060c, 0x6c242448, 0xe45c5cb8, 0x5dc2c29f, 0x6ed3d3bd, 0xefacac43, 0xa66262c4, 0xa8919139, 0xa4959531, 0x37e4e4d3, 0x8b7979f2,
+    0x32e7e7d5, 0x43c8c88b, 0x5937376e, 0xb76d6dda, 0x8c8d8d01, 0x64d5d5b1, 0xd24e4e9c, 0xe0a9a949, 0xb46c6cd8, 0xfa5656ac, 0x07f4f4f3,
+    0x25eaeacf, 0xaf6565ca, 0x8e7a7af4, 0xe9aeae47, 0x18080810, 0xd5baba6f, 0x887878f0, 0x6f25254a, 0x722e2e5c, 0x241c1c38, 0xf1a6a657,
+    0xc7b4b473, 0x51c6c697, 0x23e8e8cb, 0x7cdddda1, 0x9c7474e8, 0x211f1f3e, 0xdd4b4b96, 0xdcbdbd61, 0x868b8b0d, 0x858a8a0f, 0x907070e0,
+    0x423e3e7c, 0xc4b5b571, 0xaa6666cc, 0xd8484890, 0x05030306, 0x01f6f6f7, 0x120e0e1c, 0xa36161c2, 0x5f35356a, 0xf95757ae, 0xd0b9b969,
+    0x91868617, 0x58c1c199, 0x271d1d3a, 0xb99e9e27, 0x38e1e1d9, 0x13f8f8eb, 0xb398982b, 0x33111122, 0xbb6969d2, 0x70d9d9a9, 0x898e8e07,
+    0xa7949433, 0xb69b9b2d, 0x221e1e3c, 0x92878715, 0x20e9e9c9, 0x49cece87, 0xff5555aa, 0x78282850, 0x7adfdfa5, 0x8f8c8c03, 0xf8a1a159,
+    0x80898909, 0x170d0d1a, 0xdabfbf65, 0x31e6e6d7, 0xc6424284, 0xb86868d0, 0xc3414182, 0xb0999929, 0x772d2d5a, 0x110f0f1e, 0xcbb0b07b,
+    0xfc5454a8, 0xd6bbbb6d, 0x3a16162c};
 
+/* FIPS 197, figure 14. */
 static const u8 inverse_sbox[256] = {
     0x52, 0x09, 0x6a, 0xd5, 0x30, 0x36, 0xa5, 0x38, 0xbf, 0x40, 0xa3, 0x9e, 0x81, 0xf3, 0xd7, 0xfb, 0x7c, 0xe3, 0x39, 0x82, 0x9b, 0x2f,
     0xff, 0x87, 0x34, 0x8e, 0x43, 0x44, 0xc4, 0xde, 0xe9, 0xcb, 0x54, 0x7b, 0x94, 0x32, 0xa6, 0xc2, 0x23, 0x3d, 0xee, 0x4c, 0x95, 0x0b,
@@ -59,13 +74,29 @@ static inline void store(u8 *p, const u32 x[4])
     memcpy(p, x, 16);
 }
 
+static inline void xor_into(u32 x[4], const u32 y[4])
+{
+    for (int i = 0; i < 4; i++)
+        x[i] ^= y[i];
+}
+
 /* ---- the registers */
 
-/* Cell 0 first; word 0 of R1, R2, R3 least significant. */
-struct state {
+/* Cell 0 first. */
+struct lfsr {
     u16 a[16], b[16];
-    u32 r1[4], r2[4], r3[4];
 };
+
+/* Eight cells as a block, and back. */
+static inline void from_cells(u32 x[4], const u16 *c)
+{
+    memcpy(x, c, 16);
+}
+
+static inline void to_cells(u16 *c, const u32 x[4])
+{
+    memcpy(c, x, 16);
+}
 
 static inline u16 times(u16 c, u16 x)
 {
@@ -77,18 +108,20 @@ static inline u16 over(u16 d, u16 x)
     return (u16)((x >> 1) ^ ((x & 1) * d));
 }
 
-/* Eight clocks: the eight new cells of each register are made of old cells alone. */
-static inline void clock8(struct state *s)
+/* Eight clocks: the eight new cells of each register are made of old cells alone. Unrolled in the loop of the steps, gcc would put its vectors
+ * together cell by cell. */
+static inline void clock8(struct lfsr *l)
 {
     u16 a[8], b[8];
+#pragma GCC unroll 1
     for (int i = 0; i < 8; i++) {
-        a[i] = s->b[i] ^ times(0x990f, s->a[i]) ^ s->a[i + 1] ^ over(0xcc87, s->a[i + 8]);
-        b[i] = s->a[i] ^ times(0xc963, s->b[i]) ^ s->b[i + 3] ^ over(0xe4b1, s->b[i + 8]);
+        a[i] = l->b[i] ^ times(0x990f, l->a[i]) ^ l->a[i + 1] ^ over(0xcc87, l->a[i + 8]);
+        b[i] = l->a[i] ^ times(0xc963, l->b[i]) ^ l->b[i + 3] ^ over(0xe4b1, l->b[i + 8]);
     }
-    memcpy(s->a, s->a + 8, sizeof a);
-    memcpy(s->b, s->b + 8, sizeof b);
-    memcpy(s->a + 8, a, sizeof a);
-    memcpy(s->b + 8, b, sizeof b);
+    memcpy(l->a, l->a + 8, sizeof a);
+    memcpy(l->b, l->b + 8, sizeof b);
+    memcpy(l->a + 8, a, sizeof a);
+    memcpy(l->b + 8, b, sizeof b);
 }
 
 /* The x with x ^ beta (alpha x) = y. */
@@ -101,22 +134,38 @@ static inline u16 solve(u16 y)
 }
 
 /* Eight clocks back, a cell of each register at a time, from the highest. */
-static inline void unclock8(struct state *s)
+static inline void unclock8(struct lfsr *l)
 {
     u16 a[16], b[16];
-    memcpy(a + 8, s->a, 16);
-    memcpy(b + 8, s->b, 16);
+    memcpy(a + 8, l->a, 16);
+    memcpy(b + 8, l->b, 16);
     for (int i = 7; i >= 0; i--) {
-        u16 p = s->a[i + 8] ^ a[i + 1] ^ over(0xcc87, a[i + 8]);
-        u16 q = s->b[i + 8] ^ b[i + 3] ^ over(0xe4b1, b[i + 8]);
+        u16 p = l->a[i + 8] ^ a[i + 1] ^ over(0xcc87, a[i + 8]);
+        u16 q = l->b[i + 8] ^ b[i + 3] ^ over(0xe4b1, b[i + 8]);
         a[i] = solve(q ^ times(0xc963, p));
         b[i] = p ^ times(0x990f, a[i]);
     }
-    memcpy(s->a, a, sizeof a);
-    memcpy(s->b, b, sizeof b);
+    memcpy(l->a, a, sizeof a);
+    memcpy(l->b, b, sizeof b);
 }
 
-/* ---- the AES round with a zero key; a word is a column */
+/* ---- the AES round with a zero key, and back; a word is a column */
+
+/* The entries at four bytes, the second turned by one place, the third by two, the fourth by three. */
+static inline u32 column(u8 a, u8 b, u8 c, u8 d)
+{
+    u32 q = wide[b], r = wide[c], s = wide[d];
+    return wide[a] ^ (q << 8 | q >> 24) ^ (r << 16 | r >> 16) ^ (s << 24 | s >> 8);
+}
+
+/* The round of 16 bytes in memory, one load each: as words in registers they would not all fit. */
+static inline void round_at(u32 y[4], const u8 *x)
+{
+    y[0] = column(x[0], x[5], x[10], x[15]);
+    y[1] = column(x[4], x[9], x[14], x[3]);
+    y[2] = column(x[8], x[13], x[2], x[7]);
+    y[3] = column(x[12], x[1], x[6], x[11]);
+}
 
 static inline u32 gather(const u8 *t, u32 w, u32 x, u32 y, u32 z)
 {
@@ -147,15 +196,7 @@ static inline u32 unmixed(u32 w)
     return mixed(w ^ times_x4(times_x4(w ^ turn(turn(w)))));
 }
 
-static inline void aes_round(u32 y[4], const u32 x[4])
-{
-    y[0] = mixed(gather(sbox, x[0], x[1], x[2], x[3]));
-    y[1] = mixed(gather(sbox, x[1], x[2], x[3], x[0]));
-    y[2] = mixed(gather(sbox, x[2], x[3], x[0], x[1]));
-    y[3] = mixed(gather(sbox, x[3], x[0], x[1], x[2]));
-}
-
-static inline void aes_unround(u32 y[4], const u32 x[4])
+static inline void unround(u32 y[4], const u32 x[4])
 {
     u32 a = unmixed(x[0]), b = unmixed(x[1]), c = unmixed(x[2]), d = unmixed(x[3]);
     y[0] = gather(inverse_sbox, a, d, c, b);
@@ -164,12 +205,32 @@ static inline void aes_unround(u32 y[4], const u32 x[4])
     y[3] = gather(inverse_sbox, d, c, b, a);
 }
 
-/* ---- the step, forward and back */
+/* ---- steps forward, in batches of at most 16, each in two passes */
 
-/* Two cells of a register as a word, lower first. */
-static inline u32 pair(const u16 *cells)
+/* Word 0 of R1, R2, R3 least significant. */
+struct state {
+    struct lfsr lfsr;
+    u32 r1[4], r2[4], r3[4];
+};
+
+#define BATCH 16
+
+/* How many of the steps that are left the next batch takes. */
+static inline size_t at_most(size_t left)
 {
-    return cells[0] | (u32)cells[1] << 16;
+    return left < BATCH ? left : BATCH;
+}
+
+/* The first pass: n steps of A and B. */
+static inline void taps(struct lfsr *l, u16 *t1, u16 *t2, size_t n)
+{
+    struct lfsr m = *l;
+    for (size_t i = 0; i < n; i++) {
+        memcpy(t1 + 8 * i, m.b + 8, 16);
+        memcpy(t2 + 8 * i, m.a, 16);
+        clock8(&m);
+    }
+    *l = m;
 }
 
 /* Bytes 0 and 2 of p and of q in turn. */
@@ -191,38 +252,90 @@ static inline void sigma(u32 y[4], const u32 x[4])
     y[3] = interleaved(r >> 8, s >> 8);
 }
 
-static inline void forward(struct state *s, u32 z[4])
+/* R1 of the next step, of R2 in its lane, R3 and T2. */
+static inline void next_r1(u32 n1[4], const u8 *l2, const u32 r3[4], const u16 *t2)
 {
-    u32 n1[4], n2[4], n3[4];
-    for (int i = 0; i < 4; i++) {
-        z[i] = (s->r1[i] + pair(s->b + 8 + 2 * i)) ^ s->r2[i];
-        n1[i] = s->r2[i] + (s->r3[i] ^ pair(s->a + 2 * i));
-    }
-    aes_round(n2, s->r1);
-    aes_round(n3, s->r2);
-    sigma(s->r1, n1);
-    memcpy(s->r2, n2, sizeof n2);
-    memcpy(s->r3, n3, sizeof n3);
-    clock8(s);
+    u32 r2[4], t[4], x[4];
+    load(r2, l2);
+    from_cells(t, t2);
+    for (int i = 0; i < 4; i++)
+        x[i] = r2[i] + (r3[i] ^ t[i]);
+    sigma(n1, x);
 }
+
+/* z, of R1 and R2 in their lanes and T1. */
+static inline void output(u32 z[4], const u8 *l1, const u8 *l2, const u16 *t1)
+{
+    u32 r1[4], r2[4], t[4];
+    load(r1, l1);
+    load(r2, l2);
+    from_cells(t, t1);
+    for (int i = 0; i < 4; i++)
+        z[i] = (r1[i] + t[i]) ^ r2[i];
+}
+
+/* At most BATCH steps. z is made last in a step: its reads of what the step before wrote as words would wait for them if they came first. */
+static void batch(struct state *s, u8 *out, size_t n)
+{
+    u16 t1[8 * BATCH], t2[8 * BATCH];
+    u8 l1[16 * BATCH + 16], l2[16 * BATCH + 16];
+    u32 n1[4], n2[4], r3[4], z[4];
+    taps(&s->lfsr, t1, t2, n);
+    store(l1, s->r1);
+    store(l2, s->r2);
+    memcpy(r3, s->r3, sizeof r3);
+    for (size_t at = 0; at < 16 * n; at += 16) {
+        next_r1(n1, l2 + at, r3, t2 + at / 2);
+        round_at(n2, l1 + at);
+        round_at(r3, l2 + at);
+        store(l1 + at + 16, n1);
+        store(l2 + at + 16, n2);
+        output(z, l1 + at, l2 + at, t1 + at / 2);
+        store(out + at, z);
+    }
+    load(s->r1, l1 + 16 * n);
+    load(s->r2, l2 + 16 * n);
+    memcpy(s->r3, r3, sizeof r3);
+}
+
+/* One step, with its z. */
+static void forward(struct state *s, u32 z[4])
+{
+    u8 b[16];
+    batch(s, b, 1);
+    load(z, b);
+}
+
+static void run_forward(struct state *s, u8 *out, size_t n)
+{
+    for (size_t i = 0, k; i < n; i += k) {
+        k = at_most(n - i);
+        batch(s, out + 16 * i, k);
+    }
+}
+
+/* ---- steps back */
 
 /* What of the step that led to a state does not hang on register A: R1 and R2 before it, and its z. */
 static inline void z_before(const struct state *s, u32 o1[4], u32 o2[4], u32 z[4])
 {
-    aes_unround(o1, s->r2);
-    aes_unround(o2, s->r3);
+    u32 t1[4];
+    unround(o1, s->r2);
+    unround(o2, s->r3);
+    from_cells(t1, s->lfsr.b);
     for (int i = 0; i < 4; i++)
-        z[i] = (o1[i] + pair(s->b + 2 * i)) ^ o2[i];
+        z[i] = (o1[i] + t1[i]) ^ o2[i];
 }
 
 /* The state before that step. The clocks go first: R3 had the old a0 to a7 xored in. */
 static inline void state_before(struct state *s, const u32 o1[4], const u32 o2[4])
 {
-    u32 n1[4];
-    unclock8(s);
+    u32 n1[4], t2[4];
+    unclock8(&s->lfsr);
     sigma(n1, s->r1);
+    from_cells(t2, s->lfsr.a);
     for (int i = 0; i < 4; i++)
-        s->r3[i] = (n1[i] - o2[i]) ^ pair(s->a + 2 * i);
+        s->r3[i] = (n1[i] - o2[i]) ^ t2[i];
     memcpy(s->r1, o1, sizeof n1);
     memcpy(s->r2, o2, sizeof n1);
 }
@@ -238,49 +351,60 @@ static inline void backward(struct state *s, u32 z[4])
 
 static const u32 plain_mode[4], sealed_mode[4] = {0x78656c41, 0x20646b45, 0x676e694a, 0x6d6f6854};
 
-static inline void cells(u16 *c, const u32 x[4])
-{
-    for (int i = 0; i < 4; i++) {
-        c[2 * i] = (u16)x[i];
-        c[2 * i + 1] = (u16)(x[i] >> 16);
-    }
-}
-
-static inline void xor_into(u32 x[4], const u32 y[4])
-{
-    for (int i = 0; i < 4; i++)
-        x[i] ^= y[i];
-}
-
 /* A block xored into a8 to a15. */
-static inline void into_a(struct state *s, const u32 z[4])
+static inline void fed(struct lfsr *l, const u32 z[4])
 {
-    for (int i = 0; i < 4; i++) {
-        s->a[8 + 2 * i] ^= (u16)z[i];
-        s->a[9 + 2 * i] ^= (u16)(z[i] >> 16);
-    }
+    u32 x[4];
+    from_cells(x, l->a + 8);
+    xor_into(x, z);
+    to_cells(l->a + 8, x);
 }
 
-static inline void initial(struct state *s)
+/* One of the 16 steps of a start. */
+static void initial(struct state *s)
 {
     u32 z[4];
     forward(s, z);
-    into_a(s, z);
+    fed(&s->lfsr, z);
+}
+
+/* At most BATCH of them. Register A takes every z in, so that A and B go step by step too. */
+static void initials(struct state *s, size_t n)
+{
+    struct lfsr l = s->lfsr;
+    u16 t1[8], t2[8];
+    u8 l1[16 * BATCH + 16], l2[16 * BATCH + 16];
+    u32 n1[4], n2[4], r3[4], z[4];
+    store(l1, s->r1);
+    store(l2, s->r2);
+    memcpy(r3, s->r3, sizeof r3);
+    for (size_t at = 0; at < 16 * n; at += 16) {
+        taps(&l, t1, t2, 1);
+        next_r1(n1, l2 + at, r3, t2);
+        round_at(n2, l1 + at);
+        round_at(r3, l2 + at);
+        store(l1 + at + 16, n1);
+        store(l2 + at + 16, n2);
+        output(z, l1 + at, l2 + at, t1);
+        fed(&l, z);
+    }
+    s->lfsr = l;
+    load(s->r1, l1 + 16 * n);
+    load(s->r2, l2 + 16 * n);
+    memcpy(s->r3, r3, sizeof r3);
 }
 
 static void start(struct state *s, const u8 *key, const u8 *iv, int sealed)
 {
-    u32 low[4], high[4], x[4];
+    u32 low[4], high[4];
     load(low, key);
     load(high, key + 16);
-    load(x, iv);
     memset(s, 0, sizeof *s);
-    cells(s->a, x);
-    cells(s->a + 8, low);
-    cells(s->b, sealed ? sealed_mode : plain_mode);
-    cells(s->b + 8, high);
-    for (int i = 0; i < 15; i++)
-        initial(s);
+    memcpy(s->lfsr.a, iv, 16);
+    to_cells(s->lfsr.a + 8, low);
+    to_cells(s->lfsr.b, sealed ? sealed_mode : plain_mode);
+    to_cells(s->lfsr.b + 8, high);
+    initials(s, 15);
     xor_into(s->r1, low);
     initial(s);
     xor_into(s->r1, high);
@@ -291,16 +415,13 @@ static inline void uninitial(struct state *s)
 {
     u32 o1[4], o2[4], z[4];
     z_before(s, o1, o2, z);
-    into_a(s, z);
+    fed(&s->lfsr, z);
     state_before(s, o1, o2);
 }
 
 static inline int holds(const u16 *c, const u32 x[4])
 {
-    u32 differ = 0;
-    for (int i = 0; i < 4; i++)
-        differ |= pair(c + 2 * i) ^ x[i];
-    return differ == 0;
+    return memcmp(c, x, 16) == 0;
 }
 
 /* 0 and the IV's words and the mode, or 6. */
@@ -316,57 +437,42 @@ static u64 trace(struct state *s, const u8 *key, u64 count, u32 iv[4], u8 *seale
     xor_into(s->r1, low);
     for (int i = 0; i < 15; i++)
         uninitial(s);
-    for (int i = 0; i < 4; i++) {
-        iv[i] = pair(s->a + 2 * i);
+    from_cells(iv, s->lfsr.a);
+    for (int i = 0; i < 4; i++)
         rest |= s->r1[i] | s->r2[i] | s->r3[i];
-    }
-    *sealed = (u8)holds(s->b, sealed_mode);
-    if (!holds(s->a + 8, low) || !holds(s->b + 8, high) || rest != 0 || !(*sealed || holds(s->b, plain_mode)))
+    *sealed = (u8)holds(s->lfsr.b, sealed_mode);
+    if (!holds(s->lfsr.a + 8, low) || !holds(s->lfsr.b + 8, high) || rest != 0 || !(*sealed || holds(s->lfsr.b, plain_mode)))
         return 6;
     return 0;
 }
 
 /* ---- GHASH */
 
-/* hi is bytes 0 to 7, high byte first. */
+/* In the order of a block's bytes: lo is bytes 0 to 7, low byte first. */
 struct element {
+    u64 lo, hi;
+};
+
+/* The same as a number: hi is bytes 0 to 7, high byte first. */
+struct number {
     u64 hi, lo;
 };
 
 static inline struct element add(struct element a, struct element b)
 {
-    return (struct element){a.hi ^ b.hi, a.lo ^ b.lo};
+    return (struct element){a.lo ^ b.lo, a.hi ^ b.hi};
 }
 
-static inline struct element times_x(struct element v)
+static inline struct element from_block(const u32 x[4])
 {
-    return (struct element){v.hi >> 1 ^ (v.lo & 1) * 0xe100000000000000, v.hi << 63 | v.lo >> 1};
+    struct element e;
+    memcpy(&e, x, sizeof e);
+    return e;
 }
 
-static inline void four(struct element *t, struct element w, struct element a, struct element b, struct element ab)
+static inline void to_block(u32 x[4], struct element e)
 {
-    t[0] = w;
-    t[1] = add(w, a);
-    t[2] = add(w, b);
-    t[3] = add(w, ab);
-}
-
-/* H's multiples by every four bits at each of 32 places, the rightmost first: 8 KiB. */
-struct tables {
-    struct element at[32][16];
-};
-
-static void fill(struct tables *t, struct element h)
-{
-    struct element v = h, zero = {0, 0};
-    for (int p = 31; p >= 0; p--) {
-        struct element v4 = times_x(v), v2 = times_x(v4), v1 = times_x(v2), v3 = add(v2, v1);
-        four(t->at[p], zero, v1, v2, v3);
-        four(t->at[p] + 4, v4, v1, v2, v3);
-        four(t->at[p] + 8, v, v1, v2, v3);
-        four(t->at[p] + 12, add(v, v4), v1, v2, v3);
-        v = times_x(v1);
-    }
+    memcpy(x, &e, sizeof e);
 }
 
 static inline u32 swap(u32 x)
@@ -374,37 +480,164 @@ static inline u32 swap(u32 x)
     return x << 24 | (x << 8 & 0xff0000) | (x >> 8 & 0xff00) | x >> 24;
 }
 
-static inline struct element from_block(const u32 x[4])
+static inline u64 flip(u64 x)
 {
-    return (struct element){(u64)swap(x[0]) << 32 | swap(x[1]), (u64)swap(x[2]) << 32 | swap(x[3])};
+    return (u64)swap((u32)x) << 32 | swap((u32)(x >> 32));
 }
 
-static inline void to_block(u32 x[4], struct element e)
+/* Both lengths, of data and of text, in bits, high byte first. */
+static inline struct element lengths(u64 ad, u64 text)
 {
-    x[0] = swap((u32)(e.hi >> 32));
-    x[1] = swap((u32)e.hi);
-    x[2] = swap((u32)(e.lo >> 32));
-    x[3] = swap((u32)e.lo);
+    return (struct element){flip(ad << 3), flip(text << 3)};
 }
 
-/* (y + x) times H. */
-static inline struct element hashed(struct element y, const u32 x[4], const struct tables *t)
+static inline struct number to_number(struct element e)
 {
-    struct element e = add(y, from_block(x)), z = {0, 0};
-    for (int i = 0; i < 16; i++) {
-        z = add(z, t->at[i][e.lo & 15]);
-        z = add(z, t->at[i + 16][e.hi & 15]);
-        e.lo >>= 4;
-        e.hi >>= 4;
+    return (struct number){flip(e.lo), flip(e.hi)};
+}
+
+static inline struct element from_number(struct number v)
+{
+    return (struct element){flip(v.hi), flip(v.lo)};
+}
+
+static inline struct number times_x(struct number v)
+{
+    return (struct number){v.hi >> 1 ^ (v.lo & 1) * 0xe100000000000000, v.hi << 63 | v.lo >> 1};
+}
+
+/* H's multiples by every four bits at each of 32 places, the leftmost first: 8 KiB. An index is twice the four bits, as the entry's word. */
+struct table {
+    u64 at[32][32];
+};
+
+static inline void put(u64 *t, struct element e)
+{
+    t[0] = e.lo;
+    t[1] = e.hi;
+}
+
+static inline void four(u64 *t, struct element w, struct element a, struct element b, struct element ab)
+{
+    put(t, w);
+    put(t + 2, add(w, a));
+    put(t + 4, add(w, b));
+    put(t + 6, add(w, ab));
+}
+
+/* The entries of a place, where the leftmost four bits times v are those at that place times H; and v for the place to the right of it. */
+static inline struct number place(u64 *t, struct number v)
+{
+    struct number v4 = times_x(v), v2 = times_x(v4), v1 = times_x(v2);
+    struct element zero = {0, 0}, e8 = from_number(v), e4 = from_number(v4), e2 = from_number(v2), e1 = from_number(v1), e3 = add(e2, e1);
+    four(t, zero, e1, e2, e3);
+    four(t + 8, e4, e1, e2, e3);
+    four(t + 16, e8, e1, e2, e3);
+    four(t + 24, add(e8, e4), e1, e2, e3);
+    return times_x(v1);
+}
+
+static void fill(struct table *t, struct element h)
+{
+    struct number v = to_number(h);
+    for (int p = 0; p < 32; p++)
+        v = place(t->at[p], v);
+}
+
+/* Twice the low four bits of each byte. */
+static inline u64 twice_low(u64 x)
+{
+    return (x & 0x0f0f0f0f0f0f0f0f) << 1;
+}
+
+/* 32 bytes: twice the high four bits of each byte, then twice the low four. */
+static inline void indices(u8 *m, struct element x)
+{
+    struct element high = {twice_low(x.lo >> 4), twice_low(x.hi >> 4)}, low = {twice_low(x.lo), twice_low(x.hi)};
+    memcpy(m, &high, sizeof high);
+    memcpy(m + 16, &low, sizeof low);
+}
+
+/* What 32 indices name, summed. gcc reads an entry as one vector where the loop is unrolled and the sum goes to memory. */
+static __attribute__((noinline)) void product_at(struct element *z, const u8 *m, const struct table *t)
+{
+    u64 lo = 0, hi = 0;
+#pragma GCC unroll 16
+    for (int k = 0; k < 16; k++) {
+        const u64 *p = t->at[2 * k] + m[k], *q = t->at[2 * k + 1] + m[16 + k];
+        lo ^= p[0] ^ q[0];
+        hi ^= p[1] ^ q[1];
     }
+    z->lo = lo;
+    z->hi = hi;
+}
+
+/* (y + x) times H, by indices in m. */
+static inline struct element absorb_at(struct element y, struct element x, const struct table *t, u8 *m)
+{
+    struct element z;
+    indices(m, add(y, x));
+    product_at(&z, m, t);
     return z;
 }
 
-static inline struct element hashed_bytes(struct element y, const u8 *p, const struct tables *t)
+static struct element absorb_element(struct element y, struct element x, const struct table *t)
+{
+    u8 m[32];
+    return absorb_at(y, x, t, m);
+}
+
+static struct element absorb(struct element y, const u8 *p, const struct table *t)
 {
     u32 x[4];
     load(x, p);
-    return hashed(y, x, t);
+    return absorb_element(y, from_block(x), t);
+}
+
+/* ---- bytes that arrive in pieces */
+
+/* The hash so far, and the bytes not yet hashed, with zeros behind them. */
+struct held {
+    struct element acc;
+    u8 pending[16];
+};
+
+/* Whole blocks. The indices go to another place for each block, so that the compiler reads each from memory. */
+static struct element absorb_blocks(struct element y, const u8 *piece, size_t n, const struct table *t)
+{
+    u8 m[32 * BATCH];
+    for (size_t i = 0; i < n; i += 16) {
+        u32 x[4];
+        load(x, piece + i);
+        y = absorb_at(y, from_block(x), t, m + 2 * i % sizeof m);
+    }
+    return y;
+}
+
+/* A piece, the first byte of number n. */
+static void absorb_with(struct held *d, u64 n, const u8 *piece, size_t len, const struct table *t)
+{
+    size_t at = n % 16, from, whole;
+    if (len < 16 - at) {
+        if (len > 0)
+            memcpy(d->pending + at, piece, len);
+        return;
+    }
+    from = (16 - at) % 16;
+    whole = (len - from) / 16 * 16;
+    if (at > 0) {
+        memcpy(d->pending + at, piece, from);
+        d->acc = absorb(d->acc, d->pending, t);
+    }
+    d->acc = absorb_blocks(d->acc, piece + from, whole, t);
+    memset(d->pending, 0, 16);
+    memcpy(d->pending, piece + from + whole, len - from - whole);
+}
+
+/* The hash once n bytes are in. */
+static struct element settle_with(const struct held *d, u64 n, const struct table *t)
+{
+    return n % 16 == 0 ? d->acc : absorb(d->acc, d->pending, t);
 }
 
 /* ---- a session */
@@ -412,8 +645,7 @@ static inline struct element hashed_bytes(struct element y, const u8 *p, const s
 struct session {
     u8 phase;
     u64 ad, text;
-    struct element acc;
-    u8 pending[16];
+    struct held held;
     struct element h;
     u32 pad[4], current[4];
     struct state state;
@@ -421,55 +653,33 @@ struct session {
 
 static void begin(struct session *s, const u8 *key, const u8 *iv)
 {
-    u32 z[4];
+    u8 two[32];
+    u32 x[4];
     memset(s, 0, sizeof *s);
     start(&s->state, key, iv, 1);
-    forward(&s->state, z);
-    s->h = from_block(z);
-    forward(&s->state, s->pad);
-    memcpy(s->current, s->pad, sizeof s->pad);
+    batch(&s->state, two, 2);
+    load(x, two);
+    s->h = from_block(x);
+    load(s->pad, two + 16);
+    load(s->current, two + 16);
 }
 
-static void data(struct session *s, const u8 *piece, size_t n)
+static void data_with(struct session *s, const u8 *piece, size_t n, const struct table *t)
 {
-    size_t at = s->ad % 16;
+    absorb_with(&s->held, s->ad, piece, n, t);
     s->ad += n;
-    if (n < 16 - at) {
-        if (n > 0)
-            memcpy(s->pending + at, piece, n);
+}
+
+static void close_with(struct session *s, const struct table *t)
+{
+    if (s->phase > 0)
         return;
-    }
-    struct tables t;
-    fill(&t, s->h);
-    if (at > 0) {
-        memcpy(s->pending + at, piece, 16 - at);
-        s->acc = hashed_bytes(s->acc, s->pending, &t);
-        piece += 16 - at;
-        n -= 16 - at;
-    }
-    for (; n >= 16; n -= 16, piece += 16)
-        s->acc = hashed_bytes(s->acc, piece, &t);
-    memset(s->pending, 0, 16);
-    memcpy(s->pending, piece, n);
+    s->held.acc = settle_with(&s->held, s->ad, t);
+    memset(s->held.pending, 0, 16);
+    s->phase = 1;
 }
 
-/* What is held is padded with zeros and hashed. */
-static void settle(struct session *s, u64 n, const struct tables *t)
-{
-    if (n % 16 != 0)
-        s->acc = hashed_bytes(s->acc, s->pending, t);
-    memset(s->pending, 0, 16);
-}
-
-static void close_data(struct session *s, const struct tables *t)
-{
-    if (s->phase == 0) {
-        settle(s, s->ad, t);
-        s->phase = 1;
-    }
-}
-
-/* Text within one block, written and held. */
+/* Text of one block, written and held. A block is drawn where the next byte is the first of one. */
 static void hold(struct session *s, const u8 *piece, size_t n, u8 *out)
 {
     size_t at = s->text % 16;
@@ -478,66 +688,81 @@ static void hold(struct session *s, const u8 *piece, size_t n, u8 *out)
         forward(&s->state, s->current);
     store(key, s->current);
     for (size_t i = 0; i < n; i++)
-        out[i] = s->pending[at + i] = piece[i] ^ key[at + i];
+        out[i] = s->held.pending[at + i] = piece[i] ^ key[at + i];
     s->text += n;
+}
+
+/* At most BATCH whole blocks: a step as in batch, its z on the text, and the ciphertext hashed, block by block. All in one loop: a product waits
+ * for the one before it, and the processor makes the step meanwhile. */
+static void sealed_batch(struct session *s, const u8 *piece, u8 *out, size_t n, const struct table *t)
+{
+    u16 t1[8 * BATCH], t2[8 * BATCH];
+    u8 l1[16 * BATCH + 16], l2[16 * BATCH + 16], m[32 * BATCH];
+    u32 n1[4], n2[4], r3[4], z[4], c[4];
+    struct element y = s->held.acc;
+    taps(&s->state.lfsr, t1, t2, n);
+    store(l1, s->state.r1);
+    store(l2, s->state.r2);
+    memcpy(r3, s->state.r3, sizeof r3);
+    memcpy(z, s->current, sizeof z);
+    for (size_t at = 0; at < 16 * n; at += 16) {
+        next_r1(n1, l2 + at, r3, t2 + at / 2);
+        round_at(n2, l1 + at);
+        round_at(r3, l2 + at);
+        store(l1 + at + 16, n1);
+        store(l2 + at + 16, n2);
+        output(z, l1 + at, l2 + at, t1 + at / 2);
+        load(c, piece + at);
+        xor_into(c, z);
+        store(out + at, c);
+        y = absorb_at(y, from_block(c), t, m + 2 * at);
+    }
+    load(s->state.r1, l1 + 16 * n);
+    load(s->state.r2, l2 + 16 * n);
+    memcpy(s->state.r3, r3, sizeof r3);
+    memcpy(s->current, z, sizeof z);
+    s->held.acc = y;
 }
 
 /* Whole blocks. */
-static void blocks(struct session *s, const u8 *piece, size_t n, u8 *out, const struct tables *t)
+static void blocks(struct session *s, const u8 *piece, size_t n, u8 *out, const struct table *t)
 {
-    struct state state = s->state;
-    struct element acc = s->acc;
-    u32 z[4], c[4];
-    for (size_t i = 0; i < n; i += 16) {
-        forward(&state, z);
-        load(c, piece + i);
-        xor_into(c, z);
-        store(out + i, c);
-        acc = hashed(acc, c, t);
+    for (size_t i = 0, k; i < n; i += 16 * k) {
+        k = at_most((n - i) / 16);
+        sealed_batch(s, piece + i, out + i, k, t);
     }
-    if (n > 0)
-        memcpy(s->current, z, sizeof z);
     s->text += n;
-    s->state = state;
-    s->acc = acc;
 }
 
-static void text(struct session *s, const u8 *piece, size_t n, u8 *out)
+static void text_with(struct session *s, const u8 *piece, size_t n, u8 *out, const struct table *t)
 {
-    size_t at = s->text % 16;
-    struct tables t;
+    size_t at = s->text % 16, head = (16 - at) % 16, whole;
+    close_with(s, t);
     if (n < 16 - at) {
-        if (s->phase == 0 && s->ad % 16 != 0)
-            fill(&t, s->h);
-        close_data(s, &t);
         if (n > 0)
             hold(s, piece, n, out);
         return;
     }
-    size_t head = (16 - at) % 16, whole = (n - head) / 16 * 16;
-    fill(&t, s->h);
-    close_data(s, &t);
+    whole = (n - head) / 16 * 16;
     if (head > 0) {
         hold(s, piece, head, out);
-        settle(s, 1, &t);
+        s->held.acc = absorb(s->held.acc, s->held.pending, t);
+        memset(s->held.pending, 0, 16);
     }
-    blocks(s, piece + head, whole, out + head, &t);
+    blocks(s, piece + head, whole, out + head, t);
     if (head + whole < n)
         hold(s, piece + head + whole, n - head - whole, out + head + whole);
 }
 
-static void finish(struct session *s, u8 *tag)
+static void tag_with(struct session *s, u8 *tag, const struct table *t)
 {
-    struct tables t;
+    struct element y;
     u32 x[4];
-    fill(&t, s->h);
-    close_data(s, &t);
-    settle(s, s->text, &t);
-    to_block(x, (struct element){s->ad << 3, s->text << 3});
-    to_block(x, hashed(s->acc, x, &t));
+    close_with(s, t);
+    y = settle_with(&s->held, s->text, t);
+    to_block(x, absorb_element(y, lengths(s->ad, s->text), t));
     xor_into(x, s->pad);
     store(tag, x);
-    s->phase = 2;
 }
 
 /* ---- the block of 512 bytes and the session's 216 */
@@ -562,8 +787,7 @@ static int well_laid(const u8 *block)
 
 static void load_state(struct state *s, const u8 *p)
 {
-    memcpy(s->a, p, 32);
-    memcpy(s->b, p + 32, 32);
+    memcpy(&s->lfsr, p, sizeof s->lfsr);
     load(s->r1, p + 64);
     load(s->r2, p + 80);
     load(s->r3, p + 96);
@@ -571,8 +795,7 @@ static void load_state(struct state *s, const u8 *p)
 
 static void store_state(u8 *p, const struct state *s)
 {
-    memcpy(p, s->a, 32);
-    memcpy(p + 32, s->b, 32);
+    memcpy(p, &s->lfsr, sizeof s->lfsr);
     store(p + 64, s->r1);
     store(p + 80, s->r2);
     store(p + 96, s->r3);
@@ -594,9 +817,9 @@ static void store_session(u8 *p, const struct session *s)
     store(p + 136, x);
     store(p + 152, s->pad);
     store(p + 168, s->current);
-    to_block(x, s->acc);
+    to_block(x, s->held.acc);
     store(p + 184, x);
-    memcpy(p + 200, s->pending, 16);
+    memcpy(p + 200, s->held.pending, 16);
 }
 
 /* ---- the calls */
@@ -604,22 +827,20 @@ static void store_session(u8 *p, const struct session *s)
 void same_keystream(const uint8_t *key, const uint8_t *iv, uint64_t sealed, uint8_t *out, size_t n)
 {
     struct state s;
-    u32 z[4];
     start(&s, key, iv, sealed != 0);
-    for (size_t i = 0; i < n; i++) {
-        forward(&s, z);
-        store(out + 16 * i, z);
-    }
+    run_forward(&s, out, n);
 }
 
 void same_seal(const uint8_t *key, const uint8_t *iv, const uint8_t *ad, size_t ad_len, const uint8_t *page, size_t text_len, uint8_t *out,
                uint8_t *tag)
 {
     struct session s;
+    struct table t;
     begin(&s, key, iv);
-    data(&s, ad, ad_len);
-    text(&s, page, text_len, out);
-    finish(&s, tag);
+    fill(&t, s.h);
+    data_with(&s, ad, ad_len, &t);
+    text_with(&s, page, text_len, out, &t);
+    tag_with(&s, tag, &t);
 }
 
 uint64_t same_trace(const uint8_t *state, const uint8_t *key, uint64_t count, uint8_t *iv, uint8_t *sealed)
@@ -637,7 +858,7 @@ uint64_t same_trace(const uint8_t *state, const uint8_t *key, uint64_t count, ui
 
 uint64_t same_resume(const uint8_t *key, const uint8_t *block, uint8_t *session, uint8_t *iv)
 {
-    struct session s;
+    struct session s, first;
     struct state t;
     u32 x[4], o1[4], o2[4];
     u8 mode, found[16];
@@ -648,16 +869,15 @@ uint64_t same_resume(const uint8_t *key, const uint8_t *block, uint8_t *session,
     s.text = load32(block + 8);
     load_state(&s.state, block + 16);
     load(x, block + 128);
-    s.acc = from_block(x);
-    memcpy(s.pending, block + 144, 16);
+    s.held.acc = from_block(x);
+    memcpy(s.held.pending, block + 144, 16);
     t = s.state;
     if (trace(&t, key, 2 + (s.text + 15) / 16, x, &mode) != 0 || mode == 0)
         return 6;
     store(found, x);
-    start(&t, key, found, 1);
-    forward(&t, x);
-    s.h = from_block(x);
-    forward(&t, s.pad);
+    begin(&first, key, found);
+    s.h = first.h;
+    memcpy(s.pad, first.pad, sizeof s.pad);
     z_before(&s.state, o1, o2, s.current);
     store_session(session, &s);
     memcpy(iv, found, 16);

@@ -1,6 +1,6 @@
--- The rounds on the machine's block, from their columns: byte r of a gathered column comes from row r of another column, and the table that is
--- lent holds the S-box's value there.
-use mathlib.Core.Path.{_≡_, ap, _∙_}
+-- The round back on the machine's block, from its columns: byte r of a gathered column comes from row r of another column, and the table that is
+-- lent holds the inverse S-box's value there.
+use mathlib.Core.Path.{_≡_, _∙_}
 use mathlib.Core.List.{List, [], _++_, map}
 use Prim.Native.Nat.{ℕ}
 use Rattle.words.specs.Bytes.{little, littles}
@@ -8,9 +8,8 @@ use Rattle.words.specs.Machine.{bytesOf}
 use Rattle.words.specs.declared.Block.{Block}
 use Rattle.words.proofs.Bytes.{little-below}
 use Rattle.words.proofs.Blocks.{four}
-use Rattle.aes.specs.Field.{sub}
 use Rattle.aes.specs.Unround.{unsub, unmixColumns, unround}
-use Rattle.aes.specs.Round.{gathered, mixBy, mixColumns, round}
+use Rattle.aes.specs.Round.{gathered, mixBy}
 use Rattle.aes.specs.Tables.{Holds}
 use Rattle.aes.specs.Columns.{diagonal}
 
@@ -30,20 +29,6 @@ columns : (x : Block) {a b c d : List ℕ} → little 4 (x .w0) ≡ a → little
     → bytesOf x ≡ a ++ (b ++ (c ++ (d ++ [])))
 unfolding bytesOf littles
 columns x p q r s = λ i. p i ++ (q i ++ (r i ++ (s i ++ [])))
-
-module _ (x y : Block) (t : List ℕ) (h : Holds sub t) where
-  pub is-round : (a b c d : ℕ)
-      → Gathers t (x .w0) (x .w1) (x .w2) (x .w3) a → little 4 (y .w0) ≡ mixColumns (little 4 a)
-      → Gathers t (x .w1) (x .w2) (x .w3) (x .w0) b → little 4 (y .w1) ≡ mixColumns (little 4 b)
-      → Gathers t (x .w2) (x .w3) (x .w0) (x .w1) c → little 4 (y .w2) ≡ mixColumns (little 4 c)
-      → Gathers t (x .w3) (x .w0) (x .w1) (x .w2) d → little 4 (y .w3) ≡ mixColumns (little 4 d)
-      → bytesOf y ≡ round (bytesOf x)
-  unfolding bytesOf littles little round gathered mixBy
-  is-round a b c d ga ma gb mb gc mc gd md =
-      columns y (ma ∙ ap mixColumns (looked-up sub t h (x .w0) (x .w1) (x .w2) (x .w3) a ga))
-      (mb ∙ ap mixColumns (looked-up sub t h (x .w1) (x .w2) (x .w3) (x .w0) b gb))
-      (mc ∙ ap mixColumns (looked-up sub t h (x .w2) (x .w3) (x .w0) (x .w1) c gc))
-      (md ∙ ap mixColumns (looked-up sub t h (x .w3) (x .w0) (x .w1) (x .w2) d gd))
 
 module _ (x y : Block) (t : List ℕ) (h : Holds unsub t) where
   pub is-unround : (a b c d : ℕ)

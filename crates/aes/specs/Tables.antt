@@ -1,4 +1,5 @@
--- What a table of 256 bytes is to hold: document 01, "a table of 256 bytes whose rule is shown over the whole table".
+-- What a table with an entry for each byte is to hold: document 01, "a table of 256 bytes whose rule is shown over the whole table", and the words of document
+-- 02, S-7.
 use mathlib.Core.Path.{_≡_}
 use mathlib.Core.List.{List}
 use Prim.Native.Nat.{ℕ, _<_}

@@ -1,4 +1,4 @@
-// The AES encryption round of FIPS 197 with a zero key, and its inverse, on a block of four words. A word is a column of the state.
+// The S-box of FIPS 197, and the inverse of its encryption round with a zero key, on a block of four words. A word is a column of the state.
 // MixColumns works on the four bytes of a word at once.
 mod table;
 
@@ -12,22 +12,20 @@ ghost use Rattle.words.specs.Bytes.{little};
 ghost use Rattle.words.specs.Machine.{bytesOf};
 ghost use Rattle.aes.specs.Field.{xtime, sub};
 ghost use Rattle.aes.specs.Unround.{unsub};
-ghost use Rattle.aes.specs.Round as Round;
 ghost use Rattle.aes.specs.Unround as Unround;
 ghost use Rattle.aes.specs.Round.{gathered, mixColumns};
 ghost use Rattle.aes.specs.Unround.{unmixColumns};
 ghost use Rattle.aes.specs.Tables.{Holds};
 ghost use Rattle.aes.specs.Columns.{diagonal, turned};
 
-// The S-box, whose rule is FIPS 197's: inverse in the field, then the affine map. A constant that is indexed in place is built anew at every
-// use, so that a caller makes the table once, and lends it to the rounds.
-pub fn sbox() -> [u8; 256]
+// The S-box, whose rule is FIPS 197's: inverse in the field, then the affine map.
+fn sbox() -> [u8; 256]
     ensures { λ r. ⌜ Holds sub r ⌝ }
 {
     SBOX
 }
 
-// The inverse S-box, made from the S-box: each byte is put at the place that its entry names.
+// The inverse S-box, made from the S-box: each byte is put at the place that its entry names. A caller makes it once, and lends it to the rounds.
 pub fn inverse_sbox() -> [u8; 256]
     ensures { λ r. ⌜ Holds unsub r ⌝ }
 {
@@ -85,19 +83,6 @@ fn unmixed(w: u32) -> u32
 {
     let c = turn(turn(w));
     mixed(w ^ times_x4(times_x4(w ^ c)))
-}
-
-// The encryption round with a zero key, over the S-box: SubBytes and ShiftRows as each column is gathered, then MixColumns.
-pub fn round(x: Block, t: &[u8; 256]) -> Block
-    requires { ⌜ Holds sub (now t) ⌝ }
-    ensures { λ r. ⌜ bytesOf r ≡ Round.round (bytesOf x) ⌝ }
-{
-    Block {
-        w0: mixed(gather(t, x.w0, x.w1, x.w2, x.w3)),
-        w1: mixed(gather(t, x.w1, x.w2, x.w3, x.w0)),
-        w2: mixed(gather(t, x.w2, x.w3, x.w0, x.w1)),
-        w3: mixed(gather(t, x.w3, x.w0, x.w1, x.w2)),
-    }
 }
 
 // The block whose round it is, over the inverse S-box.

@@ -1,17 +1,18 @@
 -- Bytes of words against bytes of cells, and sigma on words: two cells make a word of the block, and sigma's four words are gathered from
 -- every second byte of the quarters put together.
-use mathlib.Core.Path.{_≡_, ap, ap₂, _∙_}
+use mathlib.Core.Path.{_≡_, sym, ap, ap₂, _∙_}
 use mathlib.Core.List.{List, [], _∷_, _++_}
-use Prim.Native.Nat.{ℕ, _+_, _-_, _*_, _/_, _%_, _^_, _<_}
+use Prim.Native.Nat.{ℕ, _+_, _-_, _*_, _/_, _%_, _^_, _<_, _≤_}
 use native.Mathlib.Omega.{arith}
 use native.Mathlib.Nat.{mod-lt}
+use native.Mathlib.Numerals.{unary-clauses}
 use lib.Bits.{bitAnd, and-block, and-mask}
 use lib.Dec.{lit<}
 use lib.ListN.{length, getD, take, drop}
-use Rattle.words.specs.Bytes.{little, littles}
+use Rattle.words.specs.Bytes.{little, littles, part}
 use Rattle.words.specs.Machine.{bytesOf}
 use Rattle.words.specs.declared.Block.{Block}
-use Rattle.words.proofs.Rows.{tab-all}
+use Rattle.words.proofs.Rows.{tab-all, window}
 use Rattle.words.proofs.Blocks.{Words, four}
 use Rattle.aes.specs.Round.{gathered}
 use Rattle.cipher.specs.Step.{sigma}
@@ -31,6 +32,11 @@ low-cells l e = ap (take 8) (tab-all 16 l e)
 pub high-cells : (l : List ℕ) → length l ≡ 16
     → getD l 8 0 ∷ getD l 9 0 ∷ getD l 10 0 ∷ getD l 11 0 ∷ getD l 12 0 ∷ getD l 13 0 ∷ getD l 14 0 ∷ getD l 15 0 ∷ [] ≡ drop 8 l
 high-cells l e = ap (drop 8) (tab-all 16 l e)
+
+-- eight cells of a list, from a place on
+pub cells-at : (l : List ℕ) (k : ℕ) → k + 8 ≤ length l
+    → getD l k 0 ∷ getD l (k + 1) 0 ∷ getD l (k + 2) 0 ∷ getD l (k + 3) 0 ∷ getD l (k + 4) 0 ∷ getD l (k + 5) 0 ∷ getD l (k + 6) 0 ∷ getD l (k + 7) 0 ∷ [] ≡ part k 8 l
+cells-at l k h = simp unary-clauses (sym (window 8 k l h))
 
 -- ---- sigma
 

@@ -7,3 +7,4 @@ pub mod LentAgain
 pub mod FrontPart
 pub mod PartHanded
 pub mod StepsBack
+pub mod Standing

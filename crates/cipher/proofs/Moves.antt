@@ -95,6 +95,18 @@ pub blocks-more : (d : Bool) (n : ℕ) (s : Registers) → blocks d (suc n) s �
 unfolding blocks zs
 blocks-more d n s = joined-append (zs d n s) (made d (moves d n s) ∷ []) ∙ ap (λ (l : List ℕ). joined (zs d n s) ++ l) (append-nil (made d (moves d n s)))
 
+pub blocks-one : (d : Bool) (s : Registers) → blocks d 1 s ≡ made d s
+unfolding blocks zs moves
+blocks-one d s = append-nil (made d s)
+
+pub blocks-add : (d : Bool) (m n : ℕ) (s : Registers) → blocks d (m + n) s ≡ blocks d m s ++ blocks d n (moves d m s)
+unfolding blocks zs
+blocks-add d m zero s = rw add-zero (sym (append-nil (blocks d m s)))
+blocks-add d m (suc n) s =
+    rw (add-suc, blocks-more, blocks-more)
+    (ap₂ (λ (l : List ℕ) (t : Registers). l ++ made d t) (blocks-add d m n s) (sym (moves-add d m n s))
+    ∙ append-assoc (blocks d m s) (blocks d n (moves d m s)) (made d (moves d n (moves d m s))))
+
 pub blocks-length : (d : Bool) (n : ℕ) (s : Registers) → IsRegisters s → length (blocks d n s) ≡ 16 * n
 unfolding blocks zs
 blocks-length d zero s g = refl

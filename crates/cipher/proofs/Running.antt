@@ -1,61 +1,57 @@
 -- What the loop of a run has made after i turns, and the three answers of a run.
-use mathlib.Core.Path.{_≡_, refl, sym, ap, ap₂, subst, _∙_}
+use mathlib.Core.Path.{_≡_, refl, sym, ap, subst, _∙_}
 use mathlib.Core.Bool.{Bool, true, false}
 use mathlib.Core.List.{List, [], _++_}
-use Prim.Native.Nat.{ℕ, _+_, _*_, _-_, _≤_, _<_, zero-le}
+use Prim.Native.Nat.{ℕ, _+_, _*_, _≤_, _<_, zero-le}
 use native.Mathlib.Omega.{arith}
-use native.Mathlib.Numerals.{add-one}
 use lib.Dec.{eqb, ltb}
-use lib.ListN.{length, take, drop, length-append, length-drop}
-use lib.Seq.{take-at, drop-at, drop-drop, sets, sets-eq}
+use lib.ListN.{length, drop}
+use lib.Seq.{sets, length-sets}
 use borrow.Author.Tests.{lt-ltb, le-ltb, ltb-false}
 use Rattle.scope.specs.Limits.{most-blocks}
 use Rattle.scope.specs.Refusals.{pick, granted, refuse}
+use Rattle.words.proofs.Writing.{put-next, put-front}
 use Rattle.cipher.specs.Registers.{Registers, IsRegisters}
 use Rattle.cipher.specs.Run.{move, made, moves, zs, blocks, run-number, run-registers, run-part}
-use Rattle.cipher.proofs.Moves.{made-block, moves-good, blocks-more, blocks-length}
+use Rattle.cipher.proofs.Moves.{moves-add, blocks-add, blocks-one, blocks-length}
 
--- the registers s after i steps are t, and the output that was xs is out
-pub record Made (d : Bool) (s : Registers) (xs : List ℕ) (n i : ℕ) (t : Registers) (out : List ℕ) : Type 0 where
+-- the registers s after i steps are t, and the output that was xs has their blocks from a place on
+pub record Made (d : Bool) (s : Registers) (xs : List ℕ) (from n i : ℕ) (t : Registers) (out : List ℕ) : Type 0 where
   pub at-most : i ≤ n
   pub state : t ≡ moves d i s
-  pub written : out ≡ blocks d i s ++ drop (16 * i) xs
+  pub written : out ≡ sets xs from (blocks d i s)
 
-module _ (d : Bool) (s : Registers) (g : IsRegisters s) (xs : List ℕ) (n : ℕ) (room : 16 * n ≤ length xs) where
-  pub made-none : Made d s xs n 0 s xs
+module _ (d : Bool) (s : Registers) (g : IsRegisters s) (xs : List ℕ) (from n : ℕ) where
+  pub made-none : Made d s xs from n 0 s xs
   unfolding moves blocks zs
   made-none = record { at-most = zero-le; state = refl; written = refl }
 
-  pub made-long : (i : ℕ) (t : Registers) (out : List ℕ) → Made d s xs n i t out → length out ≡ length xs
-  made-long i t out m =
-      let e : length out ≡ length (blocks d i s) + length (drop (16 * i) xs) = ap length (m .written) ∙ length-append (blocks d i s) (drop (16 * i) xs) in
-      let f : length (blocks d i s) ≡ 16 * i = blocks-length d i s g in
-      let k : length (drop (16 * i) xs) ≡ length xs - 16 * i = length-drop (16 * i) xs in
-      let h : i ≤ n = m .at-most in
-      omega arith
+  pub made-long : {i : ℕ} {t : Registers} {out : List ℕ} → Made d s xs from n i t out → length out ≡ length xs
+  made-long {i} m = ap length (m .written) ∙ length-sets xs from (blocks d i s)
 
-  -- one turn: a block is stored behind the blocks so far
-  pub made-more : (i : ℕ) (t : Registers) (out : List ℕ) → i < n → Made d s xs n i t out → (t′ : Registers) (z out′ : List ℕ)
-      → t′ ≡ move d t → z ≡ made d t → out′ ≡ sets out (16 * i) z → Made d s xs n (i + 1) t′ out′
-  unfolding moves
-  made-more i t out lt m t′ z out′ et ez eo =
-      let b : List ℕ = made d (moves d i s) in
-      let long : length b ≡ 16 = made-block d (moves d i s) (moves-good d i s g) .long in
-      let ez′ : z ≡ b = ez ∙ ap (made d) (m .state) in
+  -- k steps more: their blocks are put behind the blocks so far
+  pub made-more : (i k : ℕ) {t t′ : Registers} {out out′ : List ℕ} → i + k ≤ n → Made d s xs from n i t out
+      → t′ ≡ moves d k t → out′ ≡ sets out (from + 16 * i) (blocks d k t) → Made d s xs from n (i + k) t′ out′
+  made-more i k {t} {t′} {out} h m et eo =
       let lb : length (blocks d i s) ≡ 16 * i = blocks-length d i s g in
-      let ll : length out ≡ length xs = made-long i t out m in
-      let front : take (16 * i) out ≡ blocks d i s = ap (take (16 * i)) (m .written) ∙ take-at (blocks d i s) (drop (16 * i) xs) (16 * i) lb in
-      let rest : drop (16 * i) out ≡ drop (16 * i) xs = ap (drop (16 * i)) (m .written) ∙ drop-at (blocks d i s) (drop (16 * i) xs) (16 * i) lb in
-      let next : 16 * i + length b ≡ 16 * (i + 1) = omega arith in
-      let past : drop (16 * i + length b) out ≡ drop (16 * (i + 1)) xs =
-      sym (drop-drop (length b) (16 * i) out) ∙ ap (drop (length b)) rest ∙ drop-drop (length b) (16 * i) xs ∙ ap (λ (k : ℕ). drop k xs) next in
       record {
-        at-most = omega arith;
-        state = et ∙ ap (move d) (m .state) ∙ ap (λ (k : ℕ). moves d k s) (sym (add-one i));
-        written = eo ∙ ap (sets out (16 * i)) ez′ ∙ sets-eq b out (16 * i) (omega arith)
-            ∙ ap₂ (λ (p q : List ℕ). p ++ b ++ q) front past
-            ∙ ap (λ (l : List ℕ). l ++ drop (16 * (i + 1)) xs) (sym (blocks-more d i s) ∙ ap (λ (k : ℕ). blocks d k s) (sym (add-one i)));
+        at-most = h;
+        state = et ∙ ap (moves d k) (m .state) ∙ moves-add d i k s;
+        written = put-next xs (blocks d i s) (blocks d k (moves d i s)) from (from + 16 * i) (omega arith) (m .written) (eo ∙ ap (λ (u : Registers). sets out (from + 16 * i) (blocks d k u)) (m .state))
+            ∙ ap (sets xs from) (sym (blocks-add d i k s));
       }
+
+  -- one step more
+  pub made-one : (i : ℕ) {t t′ : Registers} {z out out′ : List ℕ} → i < n → Made d s xs from n i t out
+      → t′ ≡ move d t → z ≡ made d t → out′ ≡ sets out (from + 16 * i) z → Made d s xs from n (i + 1) t′ out′
+  unfolding moves
+  made-one i {t} {t′} {z} {out} {out′} lt m et ez eo =
+      made-more i 1 (omega arith) m et (eo ∙ ap (sets out (from + 16 * i)) (ez ∙ sym (blocks-one d t)))
+
+  pub made-all : {i : ℕ} {t : Registers} {out : List ℕ} → n ≤ i → Made d s xs from n i t out → (t ≡ moves d n s) × (out ≡ sets xs from (blocks d n s))
+  made-all {i} {t} {out} h m =
+      let e : i ≡ n = omega (arith, m .at-most) in
+      (m .state ∙ ap (λ (k : ℕ). moves d k s) e, m .written ∙ ap (λ (k : ℕ). sets xs from (blocks d k s)) e)
 
 -- the four things that a run promises: registers, bytes written, answer, output
 abbrev pub Answered : Bool → Registers → List ℕ → ℕ → Registers → ℕ → ℕ → List ℕ → Type 0
@@ -88,12 +84,14 @@ module _ (d : Bool) (s : Registers) (xs : List ℕ) (n : ℕ) where
   unfolding run-number
   number-zero h r = rw (le-ltb most-blocks n h, le-ltb (length xs) (16 * n) r)
 
-  pub accepted : IsRegisters s → n ≤ most-blocks → 16 * n ≤ length xs → (t : Registers) (out : List ℕ) → Made d s xs n n t out → Answered d s xs n t (16 * n) 0 out
+  pub accepted : IsRegisters s → n ≤ most-blocks → 16 * n ≤ length xs → (t : Registers) (out : List ℕ)
+      → t ≡ moves d n s → out ≡ sets xs 0 (blocks d n s) → Answered d s xs n t (16 * n) 0 out
   unfolding run-registers run-part
-  accepted g h r t out m =
+  accepted g h r t out et eo =
       let e = number-zero h r in
+      let l = blocks-length d n s g in
       subst (λ (b : Bool). (t ≡ pick b (moves d n s) s) × ((16 * n ≡ length (pick b (blocks d n s) [])) × ((0 ≡ run-number (length xs) n) × (out ≡ pick b (blocks d n s) [] ++ drop (16 * n) xs))))
-      (sym (ap (λ (a : ℕ). eqb a 0) e)) (m .state, (sym (blocks-length d n s g), (sym e, m .written)))
+      (sym (ap (λ (a : ℕ). eqb a 0) e)) (et, (sym l, (sym e, eo ∙ put-front xs (blocks d n s) (16 * n) l r)))
 
   -- of an output no longer than the blocks the part is all or nothing
   abbrev All-or-none : List ℕ → Type 0

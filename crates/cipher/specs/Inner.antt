@@ -1,18 +1,28 @@
--- What only inner functions' contracts use: the map that the table of a direction holds, and what a step back goes by.
-use Prim.Native.Nat.{ℕ}
+-- What only inner functions' contracts use: A and B alone, some steps on, and the taps that they leave in lanes of cells, eight a step; and what a step back
+-- goes by.
+use Prim.Native.Nat.{ℕ, zero, suc, _*_, _<_}
 use mathlib.Core.Path.{_≡_}
-use mathlib.Core.Bool.{Bool, true, false}
+use mathlib.Core.List.{List}
+use lib.ListN.{length, take, drop}
+use Rattle.words.specs.Bytes.{part}
 use Rattle.words.specs.Machine.{bytesOf}
-use Rattle.aes.specs.Field.{sub}
-use Rattle.aes.specs.Unround.{unsub}
+use Rattle.lfsr.specs.Clock.{Lfsr, snowV, clocks}
 use Rattle.cipher.specs.declared.State.{State}
 use Rattle.cipher.specs.declared.Before.{Before}
 use Rattle.cipher.specs.Back.{back, z-before}
 use Rattle.cipher.specs.Machine.{registersOf}
 
-abbrev pub box : (back : Bool) → ℕ → ℕ
-box true = unsub
-box false = sub
+-- A and B after n steps
+unfoldable pub clocked : ℕ → Lfsr → Lfsr
+clocked zero l = l
+clocked (suc n) l = clocks snowV 8 (clocked n l)
+
+-- the lanes have T1 and T2 of each of the n steps from l on
+pub record Tapped (l : Lfsr) (n : ℕ) (t1 t2 : List ℕ) : Type 0 where
+  pub long1 : length t1 ≡ 128
+  pub long2 : length t2 ≡ 128
+  pub first : (i : ℕ) → i < n → part (8 * i) 8 t1 ≡ drop 8 (clocked i l .b)
+  pub second : (i : ℕ) → i < n → part (8 * i) 8 t2 ≡ take 8 (clocked i l .a)
 
 -- what of the step that led to s does not hang on register A: R1 and R2 before it, and its z
 pub record Precedes (s : State) (p : Before) : Type 0 where

@@ -1,20 +1,23 @@
 // SNOW-V: one step, forward and back, by value and lent, and runs of steps.
 ghost use mathlib.Core.Path.{_≡_};
 ghost use mathlib.Core.List.{[], _∷_, _++_};
-ghost use Prim.Native.Nat.{_/_, _%_};
+ghost use Prim.Native.Nat.{_*_, _/_, _%_, _≤_};
 ghost use lib.ListN.{length, take, drop};
+ghost use lib.Seq.{sets};
 ghost use denote.Ref.{ptr};
 ghost use Rattle.words.specs.Bytes.{little, littles};
 ghost use Rattle.words.specs.Machine.{bytesOf};
-ghost use Rattle.aes.specs.Field.{sub};
 ghost use Rattle.aes.specs.Unround.{unsub};
 ghost use Rattle.aes.specs.Tables.{Holds};
 ghost use Rattle.cipher.specs.Step;
 ghost use Rattle.cipher.specs.Back;
-ghost use Rattle.cipher.specs.Run.{forward, backward, move, made, run-number, run-registers, run-part};
+ghost use Rattle.cipher.specs.Run.{forward, backward, move, made, moves, blocks, run-number, run-registers, run-part};
 ghost use Rattle.cipher.specs.Machine.{registersOf, Moves, Steps};
-ghost use Rattle.cipher.specs.Inner.{box, Precedes};
+ghost use Rattle.cipher.specs.Inner.{Precedes};
 ghost use Rattle.cipher.specs.Lent.{front-of};
+
+pub mod lanes;
+
 use lfsr::Lfsr;
 use words::Block;
 
@@ -92,31 +95,6 @@ fn sigma(x: Block) -> Block
     }
 }
 
-// One step, over a lent S-box.
-pub fn forward(s: State, sbox: &[u8; 256]) -> Moved
-    requires { ⌜ Holds sub (now sbox) ⌝ }
-    ensures { λ r. ⌜ Moves forward s r ⌝ }
-{
-    let l = s.lfsr;
-    let r1 = s.r1;
-    let r2 = s.r2;
-    let r3 = s.r3;
-    let a = l.a;
-    let b = l.b;
-    let z = words::xor(words::plus(r1, high_half(b)), r2);
-    let n1 = sigma(words::plus(r2, words::xor(r3, low_half(a))));
-    let n2 = aes::round(r1, sbox);
-    let n3 = aes::round(r2, sbox);
-    let n = lfsr::clock8(l);
-    let state = State {
-        lfsr: n,
-        r1: n1,
-        r2: n2,
-        r3: n3,
-    };
-    Moved { state: state, z: z }
-}
-
 // What of the step that led to a state does not hang on register A: R1 and R2 before it, and its z.
 pub struct Before {
     pub r1: Block,
@@ -174,33 +152,12 @@ pub fn backward(s: State, inverse: &[u8; 256]) -> Moved
     Moved { state: state, z: z }
 }
 
-// The table that a step in a direction goes by: the S-box, or its inverse, which no step forward makes.
-fn table(back: bool) -> [u8; 256]
-    ensures { λ r. ⌜ Holds (box back) r ⌝ }
-{
-    if back {
-        return aes::inverse_sbox();
-    }
-    aes::sbox()
-}
-
-// One step either way, over its lent table.
-fn one_step(s: State, back: bool, table: &[u8; 256]) -> Moved
-    requires { ⌜ Holds (box back) (now table) ⌝ }
-    ensures { λ r. ⌜ Moves back s r ⌝ }
-{
-    if back {
-        return backward(s, table);
-    }
-    forward(s, table)
-}
-
 // One step: the state it leads to, and its z.
 pub fn step_by_value(s: State) -> Stepped
     ensures { λ r. ⌜ Steps forward s r ⌝ }
 {
-    let sbox = aes::sbox();
-    let w = forward(s, &sbox);
+    let rounds = wide_round::table();
+    let w = lanes::forward(s, &rounds);
     let n = w.state;
     let z = w.z;
     Stepped {
@@ -233,6 +190,56 @@ pub fn step(s: &mut State) -> [u8; 16]
     t.z
 }
 
+// n steps forward, from the front of the output on.
+fn run_forward(s: State, out: &mut [u8], n: usize) -> State
+    requires { ⌜ 16 * n ≤ length (now out) ⌝ }
+    ensures state { λ r. ⌜ registersOf r ≡ moves forward n (registersOf s) ⌝ }
+    ensures out { λ _. ⌜ now (out .exit) ≡ sets (now (out .entry)) 0 (blocks forward n (registersOf s)) ⌝ }
+{
+    let rounds = wide_round::table();
+    let mut t = s;
+    let mut i: usize = 0;
+    while i < n {
+        let k = lanes::at_most(n - i);
+        let u = lanes::batch(t, &rounds, out, 16 * i, k);
+        t = u;
+        i += k;
+    }
+    t
+}
+
+// And back.
+fn run_back(s: State, out: &mut [u8], n: usize) -> State
+    requires { ⌜ 16 * n ≤ length (now out) ⌝ }
+    ensures state { λ r. ⌜ registersOf r ≡ moves backward n (registersOf s) ⌝ }
+    ensures out { λ _. ⌜ now (out .exit) ≡ sets (now (out .entry)) 0 (blocks backward n (registersOf s)) ⌝ }
+{
+    let inverse = aes::inverse_sbox();
+    let mut t = s;
+    let mut i: usize = 0;
+    while i < n {
+        let w = backward(t, &inverse);
+        let u = w.state;
+        let z = w.z;
+        t = u;
+        words::store(out, 16 * i, z);
+        i += 1;
+    }
+    t
+}
+
+// n steps in a direction.
+fn steps(s: State, out: &mut [u8], n: usize, back: bool) -> State
+    requires { ⌜ 16 * n ≤ length (now out) ⌝ }
+    ensures state { λ r. ⌜ registersOf r ≡ moves back n (registersOf s) ⌝ }
+    ensures out { λ _. ⌜ now (out .exit) ≡ sets (now (out .entry)) 0 (blocks back n (registersOf s)) ⌝ }
+{
+    if back {
+        return run_back(s, out, n);
+    }
+    run_forward(s, out, n)
+}
+
 // The state after a run, and how many bytes of the output it wrote.
 pub struct Ran {
     pub state: State,
@@ -262,20 +269,9 @@ pub fn run_core(s: State, answer: &mut u64, out: &mut [u8], n: usize, back: bool
         *answer = scope::SHORT_OUTPUT;
         return refused(s);
     }
-    let boxed = table(back);
-    let mut t = s;
-    let mut i = 0;
-    while i < n {
-        let w = one_step(t, back, &boxed);
-        let u = w.state;
-        let z = w.z;
-        t = u;
-        words::store(out, 16 * i, z);
-        i += 1;
-    }
     *answer = scope::ACCEPTED;
     Ran {
-        state: t,
+        state: steps(s, out, n, back),
         wrote: 16 * n,
     }
 }

@@ -4,11 +4,10 @@ use mathlib.Core.Path.{_≡_, refl, sym, ap, ap₂, _∙_}
 use mathlib.Core.List.{List, [], _∷_, _++_}
 use Prim.Native.Nat.{ℕ, zero, suc, _+_, _-_, _*_, _/_, _%_, _≤_, _<_}
 use native.Mathlib.Nat.{zero-add, suc-add}
-use native.Mathlib.Numerals.{add-one}
 use native.Mathlib.Decide.{ℕ-discrete}
 use native.Mathlib.Omega.{arith}
-use lib.ListN.{length, take, drop, getD, set, take-append-drop}
-use lib.Seq.{sets, length-sets, slice, slice-cons, slice-empty, length-slice, length-take-le, take-nil, take-take, take-length, drop-append-le}
+use lib.ListN.{length, take, drop, take-append-drop}
+use lib.Seq.{sets, length-sets, slice, slice-empty, length-slice, length-take-le, take-nil, take-take, take-length, drop-append-le}
 use Rattle.words.specs.Bytes.{zeros}
 use Rattle.ghash.specs.Hash.{eat, hashFrom}
 use Rattle.ghash.proofs.Hashing.{hash-append, hash-none, hash-one}
@@ -29,14 +28,6 @@ slice-take (suc f) k (x ∷ s) = rw (suc-add f k) (slice-take f k s)
 
 pub slice-all : (s : List ℕ) → slice 0 (length s) s ≡ s
 slice-all s = take-length s
-
--- ---- bytes into a block
-
-pub put-turn : (q s : List ℕ) (k i to : ℕ) → i < to → to ≤ length s → sets (set q k (getD s i 0)) (k + 1) (slice (i + 1) to s) ≡ sets q k (slice i to s)
-put-turn q s k i to h r = rw (add-one k, add-one i, slice-cons i to s 0 h r)
-
-pub put-end : (q s : List ℕ) (k to : ℕ) → q ≡ sets q k (slice to to s)
-put-end q s k to = rw (slice-empty to s)
 
 -- ---- block by block
 

@@ -73,7 +73,7 @@ big-append (b ∷ s) t =
 -- ---- to bytes and back
 
 -- what stands above the k bytes does not matter
-bigs-low : (k a n : ℕ) → bigs k (a * 256 ^ k + n) ≡ bigs k n
+pub bigs-low : (k a n : ℕ) → bigs k (a * 256 ^ k + n) ≡ bigs k n
 unfolding bigs
 bigs-low zero a n = refl
 bigs-low (suc k) a n =

@@ -1,5 +1,5 @@
 -- The hash over blocks: each step gives a block, and a string's hash goes on from that of its whole blocks before. The code's step is the
--- definition's, since bytes and number determine each other and xor goes through.
+-- definition's, since bytes and number determine each other.
 use mathlib.Core.Path.{_≡_, refl, sym, ap, ap₂, _∙_}
 use mathlib.Core.List.{List, [], _∷_, _++_}
 use Prim.Native.Nat.{ℕ, zero, suc, _+_, _*_, _/_, _%_}
@@ -7,14 +7,14 @@ use native.Mathlib.Omega.{arith}
 use native.Mathlib.Nat.{zero-add, suc-add}
 use lib.ListN.{length, drop, length-append, length-drop}
 use lib.Seq.{take-all, take-append-le, drop-append-le}
-use Rattle.words.specs.Xor.{_⊕_, xors}
+use Rattle.words.specs.Xor.{xors}
 use Rattle.words.specs.Bytes.{IsBlock}
 use Rattle.ghash.specs.Field.{product}
 use Rattle.ghash.specs.Hash.{big, bigs, _•_, eat, eats, blocks-of, hashFrom}
-use Rattle.ghash.specs.Machine.{numberOf, bytesOfElement}
+use Rattle.ghash.specs.Machine.{bytesOfElement}
 use Rattle.ghash.specs.declared.Element.{Element}
-use Rattle.ghash.proofs.BigEndian.{bigs-row, big-xors}
-use Rattle.ghash.proofs.Elements.{Halves, element-block, element-bytes, number-bytes}
+use Rattle.ghash.proofs.BigEndian.{bigs-row, bigs-big}
+use Rattle.ghash.proofs.Elements.{element-block}
 
 -- ---- blocks stay blocks
 
@@ -69,12 +69,8 @@ hash-one h y x e = rw e (ap (eat h y) (take-all 16 x (omega arith)))
 
 -- ---- the code's step
 
-pub eat-element : (r y x h : Element) → Halves y → Halves x → Halves h → numberOf r ≡ product (numberOf y ⊕ numberOf x) (numberOf h)
-    → bytesOfElement r ≡ eat (bytesOfElement h) (bytesOfElement y) (bytesOfElement x)
+pub eaten : (r s y x h : Element) → bytesOfElement s ≡ xors (bytesOfElement y) (bytesOfElement x)
+    → big (bytesOfElement r) ≡ product (big (bytesOfElement s)) (big (bytesOfElement h)) → bytesOfElement r ≡ eat (bytesOfElement h) (bytesOfElement y) (bytesOfElement x)
 unfolding eat _•_
-eat-element r y x h p q k e =
-    element-bytes r
-    ∙ ap (bigs 16)
-    (e ∙ sym (ap₂ product
-    (big-xors 16 (bytesOfElement y) (bytesOfElement x) (element-block y) (element-block x) ∙ ap₂ _⊕_ (number-bytes y p) (number-bytes x q))
-    (number-bytes h k)))
+eaten r s y x h e p =
+    sym (bigs-big 16 (bytesOfElement r) (element-block r)) ∙ ap (bigs 16) (p ∙ ap (λ (t : List ℕ). product (big t) (big (bytesOfElement h))) e)

@@ -14,7 +14,9 @@ use Rattle.words.proofs.XorLaws.{⊕-shl, ⊕-shifted}
 use Rattle.words.proofs.Rows.{sets-append}
 use Rattle.words.proofs.Blocks.{four}
 use Rattle.ghash.specs.Field.{timesX, product}
-use Rattle.ghash.specs.Machine.{entry, entries, row, multiples}
+use Rattle.ghash.specs.Hash.{big}
+use Rattle.ghash.specs.Machine.{bytesOfElement, entry}
+use Rattle.ghash.specs.Inner.{entries, fours, row, multiples}
 use Rattle.ghash.proofs.Product.{product-xor, product-zero, product-shift, one-product}
 
 -- ---- a table's entries
@@ -25,13 +27,14 @@ twice i = omega arith
 twice-1 : (i : ℕ) → suc i * 2 + 1 ≡ suc (suc (i * 2 + 1))
 twice-1 i = omega arith
 
-pub entries-put : (t : List ℕ) (i a b : ℕ) → entries (set (set t (i * 2) a) (i * 2 + 1) b) ≡ set (entries t) i (a * 2 ^ 64 + b)
+pub entries-put : (t : List ℕ) (i a b : ℕ)
+    → entries (set (set t (i * 2) a) (i * 2 + 1) b) ≡ set (entries t) i (big (bytesOfElement (record { lo = a; hi = b })))
 unfolding entries
 entries-put [] i a b = refl
 entries-put (x ∷ []) zero a b = refl
 entries-put (x ∷ []) (suc i) a b = rw (twice-1 i, twice i)
 entries-put (x ∷ y ∷ t) zero a b = refl
-entries-put (x ∷ y ∷ t) (suc i) a b = rw (twice-1 i, twice i) (ap (λ (l : List ℕ). (x * 2 ^ 64 + y) ∷ l) (entries-put t i a b))
+entries-put (x ∷ y ∷ t) (suc i) a b = rw (twice-1 i, twice i) (ap (λ (l : List ℕ). big (bytesOfElement (record { lo = x; hi = y })) ∷ l) (entries-put t i a b))
 
 pub entries-long : (n : ℕ) (t : List ℕ) → length t ≡ n * 2 → length (entries t) ≡ n
 unfolding entries
@@ -41,7 +44,7 @@ entries-long n (x ∷ []) e = absurd (omega arith)
 entries-long zero (x ∷ y ∷ t) e = absurd (omega arith)
 entries-long (suc n) (x ∷ y ∷ t) e = ap suc (entries-long n t (omega arith))
 
-pub entries-at : (t : List ℕ) (i : ℕ) → i < length (entries t) → getD (entries t) i 0 ≡ entry t i
+pub entries-at : (t : List ℕ) (i : ℕ) → i < length (entries t) → getD (entries t) i 0 ≡ entry t (i * 2)
 unfolding entries
 entries-at [] i h = absurd (omega arith)
 entries-at (x ∷ []) i h = absurd (omega arith)
@@ -82,7 +85,7 @@ module _ (v : ℕ) where
   lefts q = left (q * 4) ∷ left (q * 4 + 1) ∷ left (q * 4 + 2) ∷ left (q * 4 + 3) ∷ []
 
   left-four : (q : ℕ) {w a b ab : ℕ} → w ≡ left (q * 4) → a ≡ left 1 → b ≡ left 2 → ab ≡ left 3
-      → w ∷ (w ⊕ a) ∷ (w ⊕ b) ∷ (w ⊕ ab) ∷ [] ≡ lefts q
+      → fours w a b ab ≡ lefts q
   left-four q e f g h =
       four e (ap₂ _⊕_ e f ∙ left-sum q 2 1 (lit< tt)) (ap₂ _⊕_ e g ∙ left-sum q 2 2 (lit< tt)) (ap₂ _⊕_ e h ∙ left-sum q 2 3 (lit< tt))
 
@@ -111,34 +114,37 @@ unfolding multiples
 multiples-at v k h = row-at 16 0 k (λ k. product (k * 2 ^ 124) v) h ∙ ap (λ (j : ℕ). product (j * 2 ^ 124) v) (zero-add k)
 
 -- what `place` stores
-module _ (l l1 l2 l3 l4 : List ℕ) (i v : ℕ) {v4 v2 v1 v3 v12 : ℕ}
-    (e4 : v4 ≡ timesX v) (e2 : v2 ≡ timesX v4) (e1 : v1 ≡ timesX v2) (e3 : v3 ≡ v2 ⊕ v1) (e12 : v12 ≡ v ⊕ v4) where
+module _ (l l1 l2 l3 l4 : List ℕ) (i v : ℕ) {v0 v8 v4 v2 v1 v3 v12 : ℕ} (e0 : v0 ≡ 0) (e8 : v8 ≡ v) (e4 : v4 ≡ timesX v)
+    (e2 : v2 ≡ timesX (timesX v)) (e1 : v1 ≡ timesX (timesX (timesX v))) (e3 : v3 ≡ v2 ⊕ v1) (e12 : v12 ≡ v8 ⊕ v4) where
+  is-0 : v0 ≡ left v 0
+  unfolding left
+  is-0 = e0 ∙ sym (product-zero v)
+
+  is-8 : v8 ≡ left v 8
+  is-8 = e8 ∙ sym (left-8 v)
+
   is-4 : v4 ≡ left v 4
   is-4 = e4 ∙ sym (left-4 v)
 
   is-2 : v2 ≡ left v 2
-  is-2 = e2 ∙ ap timesX e4 ∙ sym (left-2 v)
+  is-2 = e2 ∙ sym (left-2 v)
 
   is-1 : v1 ≡ left v 1
-  is-1 = e1 ∙ ap timesX (e2 ∙ ap timesX e4) ∙ sym (left-1 v)
+  is-1 = e1 ∙ sym (left-1 v)
 
   is-3 : v3 ≡ left v 3
   is-3 = e3 ∙ ap₂ _⊕_ is-2 is-1 ∙ left-sum v 1 1 1 (lit< tt)
 
   is-12 : v12 ≡ left v 12
-  is-12 = e12 ∙ ap₂ _⊕_ (sym (left-8 v)) is-4 ∙ left-sum v 1 3 4 (lit< tt)
-
-  is-0 : 0 ≡ left v 0
-  unfolding left
-  is-0 = sym (product-zero v)
+  is-12 = e12 ∙ ap₂ _⊕_ is-8 is-4 ∙ left-sum v 1 3 4 (lit< tt)
 
   abbrev Four : (j : ℕ) (w : ℕ) (l l′ : List ℕ) → Type 0
-  Four j w l l′ = l′ ≡ sets l j (w ∷ (w ⊕ v1) ∷ (w ⊕ v2) ∷ (w ⊕ v3) ∷ [])
+  Four j w l l′ = l′ ≡ sets l j (fours w v1 v2 v3)
 
-  pub placed : Four i 0 l l1 → Four (i + 4) v4 l1 l2 → Four (i + 8) v l2 l3 → Four (i + 12) v12 l3 l4 → l4 ≡ sets l i (multiples v)
+  pub placed : Four i v0 l l1 → Four (i + 4) v4 l1 l2 → Four (i + 8) v8 l2 l3 → Four (i + 12) v12 l3 l4 → l4 ≡ sets l i (multiples v)
   placed p q r s =
       sixteen-stores l l1 l2 l3 l4 i (lefts v 0) (lefts v 1) (lefts v 2) (lefts v 3) refl refl refl (p ∙ ap (sets l i) (left-four v 0 is-0 is-1 is-2 is-3))
-      (q ∙ ap (sets l1 (i + 4)) (left-four v 1 is-4 is-1 is-2 is-3)) (r ∙ ap (sets l2 (i + 8)) (left-four v 2 (sym (left-8 v)) is-1 is-2 is-3))
+      (q ∙ ap (sets l1 (i + 4)) (left-four v 1 is-4 is-1 is-2 is-3)) (r ∙ ap (sets l2 (i + 8)) (left-four v 2 is-8 is-1 is-2 is-3))
       (s ∙ ap (sets l3 (i + 12)) (left-four v 3 is-12 is-1 is-2 is-3))
       ∙ ap (sets l i) (sym (multiples-left v))
 

@@ -12,9 +12,9 @@ use Rattle.ghash.proofs.Elements.{Halves, element-one}
 
 pub every-element : (e : Element) (vs : List Val) → shadow (the-row .own e vs) → Halves e
 every-element e vs h =
-    let hi : Fits w64 (e .hi) = search needs in
     let lo : Fits w64 (e .lo) = search needs in
-    record { in-hi = hi .fits; in-lo = lo .fits }
+    let hi : Fits w64 (e .hi) = search needs in
+    record { in-lo = lo .fits; in-hi = hi .fits }
 
 pub same-element : (x y : Element) (vs ws : List Val) → shadow (the-row .own x vs) → shadow (the-row .own y ws) → bytesOfElement x ≡ bytesOfElement y → x ≡ y
 same-element x y vs ws p q = element-one x y (every-element x vs p) (every-element y ws q)

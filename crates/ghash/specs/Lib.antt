@@ -1,3 +1,4 @@
 pub mod Field
 pub mod Hash
 pub mod Machine
+pub mod Inner

@@ -1,123 +1,73 @@
 // GHASH of NIST SP 800-38D on two halves of 64 bits. A product is the xor of 32 entries, one for each four bits of a block, of a table that is
 // made once for an H and lent.
 ghost use mathlib.Core.Path.{_≡_};
-ghost use mathlib.Core.List.{[], _∷_};
+ghost use mathlib.Core.List.{_++_};
 ghost use Prim.Native.Nat.{_+_, _*_, _<_, _≤_};
 ghost use lib.ListN.{set, length};
 ghost use lib.Seq.{sets};
-ghost use Rattle.words.specs.Xor.{_⊕_};
-ghost use Rattle.words.specs.Bytes.{little};
+ghost use Rattle.words.specs.Xor.{xors};
+ghost use Rattle.words.specs.Bytes.{little, part, zeros};
 ghost use Rattle.words.specs.Machine.{bytesOf};
 ghost use Rattle.ghash.specs.Field.{timesX, product};
+ghost use Rattle.ghash.specs.Hash as Hash;
 ghost use Rattle.ghash.specs.Hash.{big, eat};
-ghost use Rattle.ghash.specs.Machine.{numberOf, bytesOfElement, entry, entries, multiples, Table};
+ghost use Rattle.ghash.specs.Machine.{bytesOfElement, entry, Table};
+ghost use Rattle.ghash.specs.Inner.{numberOf, entries, multiples, fours, lows, indices, share};
 use words::Block;
 
-// A block as a number: `hi` is bytes 0 to 7, high byte first, and `lo` bytes 8 to 15.
+// A block in the order of its bytes: `lo` is bytes 0 to 7, low byte first, and `hi` bytes 8 to 15.
 pub struct Element {
-    pub hi: u64,
     pub lo: u64,
+    pub hi: u64,
 }
 
-pub fn xor(a: Element, b: Element) -> Element
-    ensures { λ r. ⌜ numberOf r ≡ numberOf a ⊕ numberOf b ⌝ }
+// The same as a number: `hi` is bytes 0 to 7, high byte first, and `lo` bytes 8 to 15.
+struct Number {
+    hi: u64,
+    lo: u64,
+}
+
+pub fn zero() -> Element
+    ensures { λ r. ⌜ bytesOfElement r ≡ zeros ⌝ }
+{
+    Element { lo: 0, hi: 0 }
+}
+
+fn xor(a: Element, b: Element) -> Element
+    ensures { λ r. ⌜ bytesOfElement r ≡ xors (bytesOfElement a) (bytesOfElement b) ⌝ }
 {
     Element {
-        hi: a.hi ^ b.hi,
         lo: a.lo ^ b.lo,
+        hi: a.hi ^ b.hi,
     }
 }
 
-// V(i+1) from V(i).
-fn times_x(v: Element) -> Element
-    ensures { λ r. ⌜ numberOf r ≡ timesX (numberOf v) ⌝ }
+// A half of two words, the low one first.
+fn join(a: u32, b: u32) -> u64
+    ensures { λ r. ⌜ little 8 r ≡ little 4 a ++ little 4 b ⌝ }
+{
+    (a as u64) + (b as u64) * 0x100000000
+}
+
+// A block of the cipher, and back: the same 16 bytes.
+pub fn from_block(b: Block) -> Element
+    ensures { λ r. ⌜ bytesOfElement r ≡ bytesOf b ⌝ }
 {
     Element {
-        hi: (v.hi >> 1) ^ ((v.lo % 2) * 0xe100_0000_0000_0000),
-        lo: (v.hi << 63) | (v.lo >> 1),
+        lo: join(b.w0, b.w1),
+        hi: join(b.w2, b.w3),
     }
 }
 
-// Entry i becomes e.
-fn put(table: &mut [u64; 1024], i: usize, e: Element)
-    requires { ⌜ i < 512 ⌝ }
-    ensures { λ _. ⌜ entries (now (table .exit)) ≡ set (entries (now (table .entry))) i (numberOf e) ⌝ }
+pub fn to_block(e: Element) -> Block
+    ensures { λ r. ⌜ bytesOf r ≡ bytesOfElement e ⌝ }
 {
-    table[i * 2] = e.hi;
-    table[i * 2 + 1] = e.lo;
-}
-
-// Four entries: w, and w with each sum of a and b.
-fn four(table: &mut [u64; 1024], i: usize, w: Element, a: Element, b: Element, ab: Element)
-    requires { ⌜ i + 4 ≤ 512 ⌝ }
-    ensures { λ _. ⌜ entries (now (table .exit))
-        ≡ sets (entries (now (table .entry))) i
-        (numberOf w ∷ (numberOf w ⊕ numberOf a) ∷ (numberOf w ⊕ numberOf b) ∷ (numberOf w ⊕ numberOf ab) ∷ []) ⌝ }
-{
-    put(table, i, w);
-    put(table, i + 1, xor(w, a));
-    put(table, i + 2, xor(w, b));
-    put(table, i + 3, xor(w, ab));
-}
-
-// The entries of place p, where the leftmost four bits • v are those at that place • H; and v for the place to the right of it.
-fn place(table: &mut [u64; 1024], p: usize, v: Element) -> Element
-    requires { ⌜ p < 32 ⌝ }
-    ensures { λ r. ⌜ numberOf r ≡ timesX (timesX (timesX (timesX (numberOf v)))) ⌝ }
-    ensures { λ _. ⌜ entries (now (table .exit)) ≡ sets (entries (now (table .entry))) (p * 16) (multiples (numberOf v)) ⌝ }
-{
-    let v4 = times_x(v);
-    let v2 = times_x(v4);
-    let v1 = times_x(v2);
-    let v3 = xor(v2, v1);
-    let zero = Element { hi: 0, lo: 0 };
-    four(table, p * 16, zero, v1, v2, v3);
-    four(table, p * 16 + 4, v4, v1, v2, v3);
-    four(table, p * 16 + 8, v, v1, v2, v3);
-    four(table, p * 16 + 12, xor(v, v4), v1, v2, v3);
-    times_x(v1)
-}
-
-// The table of h, for `times` and `absorb`, into lent words.
-pub fn fill(table: &mut [u64; 1024], h: Element)
-    requires { ⌜ length (now table) ≡ 1024 ⌝ }
-    ensures { λ _. ⌜ Table (bytesOfElement h) (now (table .exit)) ⌝ }
-{
-    let mut v = h;
-    let mut p: usize = 32;
-    while 0 < p {
-        p -= 1;
-        v = place(table, p, v);
+    Block {
+        w0: (e.lo % 0x100000000) as u32,
+        w1: (e.lo / 0x100000000) as u32,
+        w2: (e.hi % 0x100000000) as u32,
+        w3: (e.hi / 0x100000000) as u32,
     }
-}
-
-fn entry(table: &[u64; 1024], i: usize) -> Element
-    requires { ⌜ i < 512 ⌝ }
-    ensures { λ r. ⌜ numberOf r ≡ entry (now (table .entry)) i ⌝ }
-{
-    Element {
-        hi: table[i * 2],
-        lo: table[i * 2 + 1],
-    }
-}
-
-// x • h, with the table of h. `h` itself is not read: it says in the contract whose table this is.
-pub fn times(x: Element, h: Element, table: &[u64; 1024]) -> Element
-    requires { ⌜ Table (bytesOfElement h) (now table) ⌝ }
-    ensures { λ r. ⌜ numberOf r ≡ product (numberOf x) (numberOf h) ⌝ }
-{
-    let mut z = Element { hi: 0, lo: 0 };
-    let mut a = x.hi;
-    let mut b = x.lo;
-    let mut i: usize = 0;
-    while i < 16 {
-        z = xor(z, entry(table, i * 16 + (b % 16) as usize));
-        z = xor(z, entry(table, i * 16 + 256 + (a % 16) as usize));
-        a = a / 16;
-        b = b / 16;
-        i += 1;
-    }
-    z
 }
 
 // The four bytes of a word in the other order.
@@ -130,40 +80,197 @@ fn swap(x: u32) -> u32
         + x / 256 / 256 / 256
 }
 
-// A half of two words.
-fn join(a: u32, b: u32) -> u64
-    ensures { λ r. ⌜ r ≡ a * 0x100000000 + b ⌝ }
+// The eight bytes of a half.
+fn flip(x: u64) -> u64
+    ensures { λ r. ⌜ r ≡ big (little 8 x) ⌝ }
 {
-    (a as u64) * 0x100000000 + (b as u64)
+    (swap((x % 0x100000000) as u32) as u64) * 0x100000000 + (swap((x / 0x100000000) as u32) as u64)
 }
 
-// A block of the cipher as a number, and back: the same 16 bytes.
-pub fn from_block(b: Block) -> Element
-    ensures { λ r. ⌜ bytesOfElement r ≡ bytesOf b ⌝ }
+// Both lengths, of data and of text, in bits, high byte first.
+pub fn lengths(ad: u64, text: u64) -> Element
+    ensures { λ r. ⌜ bytesOfElement r ≡ Hash.lengths ad text ⌝ }
 {
     Element {
-        hi: join(swap(b.w0), swap(b.w1)),
-        lo: join(swap(b.w2), swap(b.w3)),
+        lo: flip(ad << 3),
+        hi: flip(text << 3),
     }
 }
 
-pub fn to_block(e: Element) -> Block
-    ensures { λ r. ⌜ bytesOf r ≡ bytesOfElement e ⌝ }
+fn to_number(e: Element) -> Number
+    ensures { λ r. ⌜ numberOf r ≡ big (bytesOfElement e) ⌝ }
 {
-    Block {
-        w0: swap((e.hi / 0x100000000) as u32),
-        w1: swap((e.hi % 0x100000000) as u32),
-        w2: swap((e.lo / 0x100000000) as u32),
-        w3: swap((e.lo % 0x100000000) as u32),
+    Number {
+        hi: flip(e.lo),
+        lo: flip(e.hi),
     }
 }
 
-// One element more: (y ⊕ x) • h.
+fn from_number(v: Number) -> Element
+    ensures { λ r. ⌜ big (bytesOfElement r) ≡ numberOf v ⌝ }
+{
+    Element {
+        lo: flip(v.hi),
+        hi: flip(v.lo),
+    }
+}
+
+// V(i+1) from V(i).
+fn times_x(v: Number) -> Number
+    ensures { λ r. ⌜ numberOf r ≡ timesX (numberOf v) ⌝ }
+{
+    Number {
+        hi: (v.hi >> 1) ^ ((v.lo % 2) * 0xe100_0000_0000_0000),
+        lo: (v.hi << 63) | (v.lo >> 1),
+    }
+}
+
+// Entry i becomes e.
+fn put(table: &mut [u64; 1024], i: usize, e: Element)
+    requires { ⌜ i < 512 ⌝ }
+    ensures { λ _. ⌜ entries (now (table .exit)) ≡ set (entries (now (table .entry))) i (big (bytesOfElement e)) ⌝ }
+{
+    table[i * 2] = e.lo;
+    table[i * 2 + 1] = e.hi;
+}
+
+// Four entries: w, and w with each sum of a and b.
+fn four(table: &mut [u64; 1024], i: usize, w: Element, a: Element, b: Element, ab: Element)
+    requires { ⌜ i + 4 ≤ 512 ⌝ }
+    ensures { λ _. ⌜ entries (now (table .exit))
+        ≡ sets (entries (now (table .entry))) i
+        (fours (big (bytesOfElement w)) (big (bytesOfElement a)) (big (bytesOfElement b)) (big (bytesOfElement ab))) ⌝ }
+{
+    put(table, i, w);
+    put(table, i + 1, xor(w, a));
+    put(table, i + 2, xor(w, b));
+    put(table, i + 3, xor(w, ab));
+}
+
+// The entries of place p, where the leftmost four bits • v are those at that place • H; and v for the place to the right of it.
+fn place(table: &mut [u64; 1024], p: usize, v: Number) -> Number
+    requires { ⌜ p < 32 ⌝ }
+    ensures { λ r. ⌜ numberOf r ≡ timesX (timesX (timesX (timesX (numberOf v)))) ⌝ }
+    ensures { λ _. ⌜ entries (now (table .exit)) ≡ sets (entries (now (table .entry))) (p * 16) (multiples (numberOf v)) ⌝ }
+{
+    let v4 = times_x(v);
+    let v2 = times_x(v4);
+    let v1 = times_x(v2);
+    let e8 = from_number(v);
+    let e4 = from_number(v4);
+    let e2 = from_number(v2);
+    let e1 = from_number(v1);
+    let e3 = xor(e2, e1);
+    four(table, p * 16, zero(), e1, e2, e3);
+    four(table, p * 16 + 4, e4, e1, e2, e3);
+    four(table, p * 16 + 8, e8, e1, e2, e3);
+    four(table, p * 16 + 12, xor(e8, e4), e1, e2, e3);
+    times_x(v1)
+}
+
+// The table of h, for `absorb` and its kin, into lent words.
+pub fn fill(table: &mut [u64; 1024], h: Element)
+    requires { ⌜ length (now table) ≡ 1024 ⌝ }
+    ensures { λ _. ⌜ Table (bytesOfElement h) (now (table .exit)) ⌝ }
+{
+    let mut v = to_number(h);
+    let mut p: usize = 0;
+    while p < 32 {
+        v = place(table, p, v);
+        p += 1;
+    }
+}
+
+// Twice the low four bits of each byte.
+fn twice_low(x: u64) -> u64
+    ensures { λ r. ⌜ little 8 r ≡ lows (little 8 x) ⌝ }
+{
+    (x & 0x0f0f_0f0f_0f0f_0f0f) * 2
+}
+
+// Where a block's entries stand within their places, 32 bytes of m: twice the high four bits of each of its bytes, then twice the low four.
+fn indices(m: &mut [u8; 512], at: usize, x: Element)
+    requires { ⌜ (at + 32 ≤ 512) × (length (now m) ≡ 512) ⌝ }
+    ensures { λ _. ⌜ now (m .exit) ≡ sets (now (m .entry)) at (indices (bytesOfElement x)) ⌝ }
+{
+    let high = Element {
+        lo: twice_low(x.lo / 16),
+        hi: twice_low(x.hi / 16),
+    };
+    let low = Element {
+        lo: twice_low(x.lo),
+        hi: twice_low(x.hi),
+    };
+    words::store(m, at, to_block(high));
+    words::store(m, at + 16, to_block(low));
+}
+
+// The entry at word i + b.
+fn entry(table: &[u64; 1024], i: usize, b: u8) -> Element
+    requires { ⌜ i + b + 1 < 1024 ⌝ }
+    ensures { λ r. ⌜ big (bytesOfElement r) ≡ entry (now (table .entry)) (i + b) ⌝ }
+{
+    let k = i + (b as usize);
+    Element {
+        lo: table[k],
+        hi: table[k + 1],
+    }
+}
+
+// What byte k of x, at its place, • h makes: its two entries. `x` and `h` themselves are not read: they say in the contract whose indices and
+// whose table these are.
+fn byte(m: &[u8; 512], at: usize, k: usize, x: Element, h: Element, table: &[u64; 1024]) -> Element
+    requires { ⌜ (at + 32 ≤ 512) × (k < 16) × (part at 32 (now m) ≡ indices (bytesOfElement x)) × Table (bytesOfElement h) (now table) ⌝ }
+    ensures { λ r. ⌜ big (bytesOfElement r) ≡ share (bytesOfElement x) (bytesOfElement h) k 1 ⌝ }
+{
+    xor(
+        entry(table, 64 * k, m[at + k]),
+        entry(table, 64 * k + 32, m[at + 16 + k]),
+    )
+}
+
+// x • h, from the indices of x at a place of m.
+fn product_at(m: &[u8; 512], at: usize, x: Element, h: Element, table: &[u64; 1024]) -> Element
+    requires { ⌜ (at + 32 ≤ 512) × (part at 32 (now m) ≡ indices (bytesOfElement x)) × Table (bytesOfElement h) (now table) ⌝ }
+    ensures { λ r. ⌜ big (bytesOfElement r) ≡ product (big (bytesOfElement x)) (big (bytesOfElement h)) ⌝ }
+{
+    let mut z = zero();
+    let mut k: usize = 0;
+    while k < 16 {
+        z = xor(z, byte(m, at, k, x, h, table));
+        k += 1;
+    }
+    z
+}
+
+// One block more: (y ⊕ x) • h. The indices go into m at a place that a loop changes from block to block: the compiler then reads each from
+// memory, and does not shift it out of a word again.
+pub fn absorb_at(
+    y: Element,
+    x: Element,
+    h: Element,
+    table: &[u64; 1024],
+    m: &mut [u8; 512],
+    at: usize,
+) -> Element
+    requires { ⌜ Table (bytesOfElement h) (now table) × (at + 32 ≤ 512) × (length (now m) ≡ 512) ⌝ }
+    ensures hash { λ r. ⌜ bytesOfElement r ≡ eat (bytesOfElement h) (bytesOfElement y) (bytesOfElement x) ⌝ }
+    ensures scratch { λ _. ⌜ now (m .exit) ≡ sets (now (m .entry)) at (indices (xors (bytesOfElement y) (bytesOfElement x))) ⌝ }
+{
+    let s = xor(y, x);
+    indices(m, at, s);
+    product_at(m, at, s, h, table)
+}
+
+// The same for a single block. With two callers `product_at` is compiled into neither, where its indices would become shifts again.
 pub fn absorb_element(y: Element, x: Element, h: Element, table: &[u64; 1024]) -> Element
     requires { ⌜ Table (bytesOfElement h) (now table) ⌝ }
     ensures { λ r. ⌜ bytesOfElement r ≡ eat (bytesOfElement h) (bytesOfElement y) (bytesOfElement x) ⌝ }
 {
-    times(xor(y, x), h, table)
+    let mut m = [0u8; 512];
+    let s = xor(y, x);
+    indices(&mut m, 0, s);
+    product_at(&m, 0, s, h, table)
 }
 
 // The same for a block of the cipher.

@@ -51,13 +51,14 @@ pub fn seal(key: &[u8], iv: &[u8], ad: &[u8], text: &[u8], out: &mut [u8]) -> Ta
     if out.len() < text.len() {
         return refused(scope::SHORT_OUTPUT);
     }
-    let b = session::begin(key, iv);
+    let rounds = wide_round::table();
+    let b = session::lent::begin_with(key, iv, &rounds);
     let begun = b.session;
     let h = begun.h;
     let mut table = [0u64; 1024];
     ghash::fill(&mut table, h);
     let told = session::lent::data_with(begun, ad, &table);
-    let whole = session::lent::text_with(told, text, out, &table);
+    let whole = session::lent::text_with(told, text, out, &rounds, &table);
     Tagged {
         answer: scope::ACCEPTED,
         tag: words::to_bytes(session::lent::tag_with(whole, &table)),
@@ -110,7 +111,8 @@ pub fn open(key: &[u8], iv: &[u8], ad: &[u8], cipher: &[u8], tag: &[u8], out: &m
     if n != 0 {
         return n;
     }
-    let b = session::begin(key, iv);
+    let rounds = wide_round::table();
+    let b = session::lent::begin_with(key, iv, &rounds);
     let begun = b.session;
     let h = begun.h;
     let mut table = [0u64; 1024];
@@ -119,7 +121,7 @@ pub fn open(key: &[u8], iv: &[u8], ad: &[u8], cipher: &[u8], tag: &[u8], out: &m
     let given = words::load(tag, 0);
     let expected = tag_over(ready, cipher, &table);
     if words::same(given, expected) {
-        session::lent::apply_keystream(ready, cipher, out);
+        session::lent::apply_keystream(ready, cipher, out, &rounds);
         return scope::ACCEPTED;
     }
     scope::BAD_TAG

@@ -56,11 +56,6 @@ module _ {s : Session} {p o : List ℕ} {from to : ℕ} {out : List ℕ} {u : Se
   all-output e =
       ap (sets out i) (sym (out-none u) ∙ ap (text-out u) (sym (slice-empty to p)) ∙ ap (λ (k : ℕ). text-out u (slice k to p)) (sym e)) ∙ g .output
 
--- ---- by sixteen
-
-pub whole-left : (i to : ℕ) → i < to → (to - i) % 16 ≡ 0 → (i + 16 ≤ to) × ((to - (i + 16)) % 16 ≡ 0)
-whole-left i to h e = (omega arith, omega arith)
-
 -- ---- head, blocks and tail of a piece of n bytes, at text length t
 
 -- the length stays a u64 up to any place m

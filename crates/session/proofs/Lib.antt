@@ -2,6 +2,7 @@ pub mod Pieces
 pub mod Within
 pub mod Going
 pub mod Made
+pub mod Whole
 pub mod Streaming
 pub mod Numbers
 pub mod Beginning

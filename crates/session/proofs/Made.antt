@@ -1,5 +1,4 @@
--- What the code's values make of a session, in the terms of the definitions: text held under the block in use, a block filled, and the track
--- of whole blocks.
+-- What the code's values make of a session, in the terms of the definitions: text held under the block in use, and a block filled.
 use mathlib.Core.Path.{_≡_, sym, ap, ap₂, _∙_}
 use mathlib.Core.List.{List}
 use Prim.Native.Nat.{ℕ, _+_, _-_, _%_, _≤_, _<_}
@@ -9,16 +8,13 @@ use lib.Seq.{sets, length-sets}
 use Rattle.words.specs.Xor.{xors}
 use Rattle.words.proofs.Blocks.{bytesOf-block}
 use Rattle.ghash.specs.Hash.{eat}
-use Rattle.cipher.specs.Step.{z}
-use Rattle.cipher.specs.Machine.{registersOf}
 use Rattle.digest.specs.Sum.{fresh}
 use Rattle.session.specs.declared.Session as machine
-use Rattle.session.specs.declared.blocks.Lane.{Lane}
 use Rattle.session.specs.Session.{Session}
 use Rattle.session.specs.Pieces.{text-taken, text-out}
 use Rattle.session.specs.Machine.{sessionOf}
-use Rattle.session.specs.Inner.{ready, masked, counted, holding, held, Track, trackOf, block-taken}
-use Rattle.session.proofs.Within.{within-out, within-few, within-full, block-out, block-taken-is}
+use Rattle.session.specs.Inner.{ready, masked, counted, holding, held}
+use Rattle.session.proofs.Within.{within-out, within-few, within-full}
 
 -- ---- text of one block: u is the session made ready, q what it then holds of the text p
 
@@ -59,24 +55,3 @@ module _ (s : Session) (r : machine.Session) (p : List ℕ) (er : sessionOf r �
       ap (λ (x : List ℕ). counted (sessionOf r) (r .text) (fresh x)) ey
       ∙ ap (λ (v : Session). counted v (v .text) (fresh (eat (s .h) (v .sum .hash) (v .sum .pending)))) er
       ∙ sym (within-full s p some ready-long (omega arith) h)
-
--- ---- whole blocks: the session s with the track t, at n bytes of text
-
-abbrev pub riding : Session → Track → ℕ → Session
-riding s t n =
-    record { phase = s .phase; ad = s .ad; text = n; registers = t .registers; h = s .h; pad = s .pad; current = t .current; sum = t .sum }
-
--- a turn of the loop, which makes the lane r of l
-module _ (s : Session) (l r : Lane) (n : ℕ) (p : List ℕ) (er : trackOf r ≡ block-taken (s .h) (trackOf l) p) (start : n % 16 ≡ 0) (long : length p ≡ 16) where
-  drawn-long : length (z (registersOf (l .state))) ≡ 16
-  drawn-long = ap (λ (t : Track). length (t .current)) (sym er) ∙ bytesOf-block (r .z) .long
-
-  pub turn-session : length (l .held .pending) ≡ 16 → riding s (trackOf r) (n + 16) ≡ text-taken (riding s (trackOf l) n) p
-  turn-session k = ap (λ (t : Track). riding s t (n + 16)) er ∙ sym (block-taken-is (riding s (trackOf l) n) p start long drawn-long k)
-
-  pub turn-out : (o o₁ : List ℕ) (i : ℕ) → o₁ ≡ sets o i (xors p (z (registersOf (l .state)))) → o₁ ≡ sets o i (text-out (riding s (trackOf l) n) p)
-  turn-out o o₁ i eo = eo ∙ ap (sets o i) (sym (block-out (riding s (trackOf l) n) p start long drawn-long))
-
-  -- nothing is held behind a block
-  pub turn-long : length (r .held .pending) ≡ 16
-  turn-long = ap (λ (t : Track). length (t .sum .pending)) er

@@ -1,14 +1,12 @@
--- The numbers of the calls by what they find, and the lengths that finish hashes.
-use mathlib.Core.Path.{_≡_, sym, ap, _∙_}
+-- The numbers of the calls by what they find.
+use mathlib.Core.Path.{_≡_, sym, _∙_}
 use mathlib.Core.List.{List, _++_}
-use Prim.Native.Nat.{ℕ, suc, _+_, _*_, _/_, _%_, _^_, _≤_, _<_}
+use Prim.Native.Nat.{ℕ, suc, _+_, _≤_, _<_}
 use native.Mathlib.Omega.{arith}
 use borrow.Author.Tests.{eq-eqb, ne-eqb, lt-ltb, le-ltb}
 use lib.ListN.{length, drop}
 use Rattle.scope.specs.Limits.{most-data, most-text}
 use Rattle.words.specs.Bytes.{zeros}
-use Rattle.ghash.specs.Hash.{bigs}
-use Rattle.ghash.proofs.BigEndian.{bigs-append}
 use Rattle.session.specs.declared.Session as machine
 use Rattle.session.specs.declared.Said.{Said}
 use Rattle.session.specs.Session.{Session}
@@ -53,13 +51,6 @@ finish-late s h = rw (le-ltb (s .phase) 2 h)
 pub finish-due : (s : Session) → s .phase < 2 → finish-number s ≡ 0
 unfolding finish-number
 finish-due s h = rw (lt-ltb (s .phase) 2 h)
-
--- eight bytes hold a length in bits modulo 2^64
-pub bits-low : (n : ℕ) → bigs 8 (n % 0x2000000000000000 * 8) ≡ bigs 8 (n * 8)
-unfolding bigs
-bits-low n =
-    let e : n * 8 ≡ n / 0x2000000000000000 * 256 ^ 8 + n % 0x2000000000000000 * 8 = omega arith in
-    sym (ap (bigs 8) e ∙ bigs-append 0 8 (n / 0x2000000000000000) (n % 0x2000000000000000 * 8) (omega arith))
 
 -- ---- what the calls then give
 

@@ -1,64 +1,70 @@
 -- The keystream alone, done up to place i: some session has come by text to place i, at the start of a block, with the registers r, and what is
 -- left leads where the whole leads. What that session holds of the hash does not matter to what it writes, so the code keeps none.
-use mathlib.Core.Path.{_≡_, refl, sym, ap, _∙_}
+use mathlib.Core.Path.{_≡_, refl, sym, ap, ap₂, subst, _∙_}
 use mathlib.Core.List.{List, _++_}
-use Prim.Native.Nat.{ℕ, _+_, _-_, _%_, _≤_, _<_}
+use Prim.Native.Nat.{ℕ, _+_, _-_, _*_, _%_, _≤_, _<_, zero-le}
 use native.Mathlib.Omega.{arith}
 use lib.ListN.{length, drop}
-use lib.Seq.{sets, slice, length-slice}
+use lib.Seq.{sets, length-sets, slice, length-slice}
 use Rattle.words.specs.Xor.{xors}
-use Rattle.cipher.specs.Registers.{Registers}
-use Rattle.cipher.specs.Step.{z, step}
+use Rattle.words.specs.Bytes.{part}
+use Rattle.words.proofs.Rows.{xors-length, xors-append}
+use Rattle.words.proofs.Parts.{part-long, part-more}
+use Rattle.words.proofs.Writing.{put-next, sets-over, read-behind, read-written}
+use Rattle.cipher.specs.Registers.{Registers, IsRegisters}
+use Rattle.cipher.specs.Step.{z}
+use Rattle.cipher.specs.Run.{forward, moves, blocks}
+use Rattle.cipher.proofs.Inverse.{z-block}
+use Rattle.cipher.proofs.Moves.{moves-good, blocks-length}
+use Rattle.digest.proofs.Slices.{slice-take}
 use Rattle.session.specs.Session.{Session}
 use Rattle.session.specs.Pieces.{text-taken, text-out}
-use Rattle.session.specs.Inner.{ready, masked}
+use Rattle.session.specs.Inner.{ready, masked, under-blocks}
 use Rattle.session.proofs.Pieces.{text-count}
-use Rattle.session.proofs.Within.{drawn-once, ready-start, within-out}
+use Rattle.session.proofs.Within.{ready-start, within-out}
+use Rattle.session.proofs.Whole.{drawn-blocks}
 use Rattle.session.proofs.Going.{Going, none, more, whole}
 
 pub record Streaming (s : Session) (p o : List ℕ) (out : List ℕ) (r : Registers) (i : ℕ) : Type 0 where
   pub at : Session
   pub going : Going s p o 0 (length p) out at i
   pub registers : r ≡ at .registers
+  pub good : IsRegisters r
   pub start : at .text % 16 ≡ 0
 
-pub begun : (s : Session) (p o : List ℕ) (r : Registers) → r ≡ s .registers → s .text % 16 ≡ 0 → Streaming s p o o r 0
-begun s p o r e h = record { at = s; going = none s p o 0 (length p) (omega arith); registers = e; start = h }
+pub begun : (s : Session) (p o : List ℕ) (r : Registers) → r ≡ s .registers → IsRegisters r → s .text % 16 ≡ 0 → Streaming s p o o r 0
+begun s p o r e g h = record { at = s; going = none s p o 0 (length p) (omega arith); registers = e; good = g; start = h }
 
-module _ {s : Session} {p o : List ℕ} {out : List ℕ} {r : Registers} {i : ℕ} (g : Streaming s p o out r i) (out′ : List ℕ) (long : length (z r) ≡ 16) where
+module _ {s : Session} {p o : List ℕ} {out : List ℕ} {r : Registers} {i : ℕ} (g : Streaming s p o out r i) (out′ : List ℕ) where
   -- up to place m, within a block
-  module _ (m : ℕ) (some : i < m) (few : m - i ≤ 16) (read : m ≤ length p) (eo : out′ ≡ sets out i (xors (slice i m p) (z r))) where
-    part-long : length (slice i m p) ≡ m - i
-    part-long = length-slice i m p read
+  pub stream-end : (m : ℕ) → i < m → m - i ≤ 16 → m ≡ length p → out′ ≡ sets out i (xors (slice i m p) (z r)) → length p ≤ length o → out′ ≡ text-out s p ++ drop (length p) o
+  stream-end m some few e eo h =
+      let n : length (slice i m p) ≡ m - i = length-slice i m p (omega arith) in
+      let start = g .start in
+      let ready-long : length (ready (g .at) .current) ≡ 16 =
+      ap (λ (u : Session). length (u .current)) (ready-start (g .at) start) ∙ ap (λ (q : Registers). length (z q)) (sym (g .registers)) ∙ z-block r (g .good) .long in
+      let under-block : text-out (g .at) (slice i m p) ≡ xors (slice i m p) (z (g .at .registers)) =
+      within-out (g .at) (slice i m p) (omega arith) ready-long (omega arith) ∙ ap (λ (u : Session). masked u (slice i m p)) (ready-start (g .at) start) ∙ rw start in
+      whole
+      (more (g .going) out′ _ m (omega arith) (omega arith) (omega arith) refl
+      (eo ∙ ap (λ (q : Registers). sets out i (xors (slice i m p) (z q))) (g .registers) ∙ ap (sets out i) (sym under-block)))
+      e h .1
 
-    ready-long : length (ready (g .at) .current) ≡ 16
-    ready-long = ap (λ (u : Session). length (u .current)) (ready-start (g .at) (g .start)) ∙ ap (λ (q : Registers). length (z q)) (sym (g .registers)) ∙ long
-
-    under-block : text-out (g .at) (slice i m p) ≡ xors (slice i m p) (z (g .at .registers))
-    under-block =
-        let n = part-long in
-        let h = g .start in
-        within-out (g .at) (slice i m p) (omega arith) ready-long (omega arith) ∙ ap (λ (u : Session). masked u (slice i m p)) (ready-start (g .at) h) ∙ rw h
-
-    on : Going s p o 0 (length p) out′ (text-taken (g .at) (slice i m p)) m
-    on =
-        more (g .going) out′ _ m (omega arith) read (omega arith) refl
-        (eo ∙ ap (λ (q : Registers). sets out i (xors (slice i m p) (z q))) (g .registers) ∙ ap (sets out i) (sym under-block))
-
-    pub stream-end : m ≡ length p → length p ≤ length o → out′ ≡ text-out s p ++ drop (length p) o
-    stream-end e h = whole on e h .1
-
-  pub stream-turn : i + 16 ≤ length p → out′ ≡ sets out i (xors (slice i (i + 16) p) (z r)) → (r′ : Registers) → r′ ≡ step r
-      → Streaming s p o out′ r′ (i + 16)
-  stream-turn read eo r′ er =
-      let n = part-long (i + 16) (omega arith) (omega arith) read eo in
-      let h = g .start in
-      let c = text-count (g .at) (slice i (i + 16) p) in
-      let d = drawn-once (g .at) (slice i (i + 16) p) (omega arith) (omega arith) .0 in
+  -- k blocks more
+  pub stream-blocks : (k : ℕ) → i + 16 * k ≤ length p → out′ ≡ sets out i (under-blocks r k (slice i (i + 16 * k) p)) → (r′ : Registers) → r′ ≡ moves forward k r
+      → Streaming s p o out′ r′ (i + 16 * k)
+  stream-blocks k read eo r′ er =
+      let part = slice i (i + 16 * k) p in
+      let n : length part ≡ 16 * k = length-slice i (i + 16 * k) p read ∙ omega arith in
+      let c = text-count (g .at) part in
+      let start = g .start in
+      let d = drawn-blocks (g .at) (subst IsRegisters (g .registers) (g .good)) start k part n in
       record {
-        at = text-taken (g .at) (slice i (i + 16) p);
-        going = on (i + 16) (omega arith) (omega arith) read eo;
-        registers = er ∙ ap step (g .registers) ∙ sym (d ∙ ap (λ (u : Session). u .registers) (ready-start (g .at) h));
+        at = text-taken (g .at) part;
+        going = more (g .going) out′ _ (i + 16 * k) (omega arith) read (omega arith) refl
+            (eo ∙ ap (λ (q : Registers). sets out i (under-blocks q k part)) (g .registers) ∙ ap (sets out i) (sym (d .output)));
+        registers = er ∙ ap (moves forward k) (g .registers) ∙ sym (d .registers);
+        good = subst IsRegisters (sym er) (moves-good forward k r (g .good));
         start = omega arith;
       }
 
@@ -66,3 +72,53 @@ module _ {s : Session} {p o : List ℕ} {out : List ℕ} {r : Registers} {i : �
 pub stream-done : {s : Session} {p o : List ℕ} {out : List ℕ} {r : Registers} {i : ℕ} → Streaming s p o out r i → i ≡ length p → length p ≤ length o
     → out ≡ text-out s p ++ drop (length p) o
 stream-done g e h = whole (g .going) e h .1
+
+-- ---- keystream that stands in the output, xored with the input
+
+-- of the n blocks from a place on i are done
+pub record Xored (p o : List ℕ) (from n i : ℕ) (out : List ℕ) : Type 0 where
+  pub at-most : i ≤ n
+  pub written : out ≡ sets o from (xors (part from (16 * i) p) (part from (16 * i) o))
+
+pub xored-long : {p o : List ℕ} {from n i : ℕ} {out : List ℕ} → Xored p o from n i out → length out ≡ length o
+xored-long {p} {o} {from} {n} {i} m = ap length (m .written) ∙ length-sets o from (xors (part from (16 * i) p) (part from (16 * i) o))
+
+module _ (p o : List ℕ) (from n : ℕ) where
+  pub xored-none : Xored p o from n 0 o
+  unfolding xors
+  xored-none = record { at-most = zero-le; written = refl }
+
+  pub xored-more : from + 16 * n ≤ length p → from + 16 * n ≤ length o → (i : ℕ) {out c out′ : List ℕ} → i < n → Xored p o from n i out
+      → c ≡ xors (part (from + 16 * i) 16 p) (part (from + 16 * i) 16 out) → out′ ≡ sets out (from + 16 * i) c → Xored p o from n (i + 1) out′
+  xored-more read room i {out} {c} {out′} lt m ec eo =
+      let at = from + 16 * i in
+      let v = xors (part from (16 * i) p) (part from (16 * i) o) in
+      let kp = part-long p from (16 * i) (omega arith) in
+      let ko = part-long o from (16 * i) (omega arith) in
+      let long : length v ≡ 16 * i = xors-length (part from (16 * i) p) (part from (16 * i) o) (kp ∙ sym ko) ∙ kp in
+      let still : part at 16 out ≡ part at 16 o = ap (part at 16) (m .written) ∙ read-behind o at 16 from v (omega arith) in
+      let e : 16 * (i + 1) ≡ 16 * i + 16 = omega arith in
+      record {
+        at-most = omega arith;
+        written = put-next o v (xors (part at 16 p) (part at 16 o)) from at (omega arith) (m .written) (eo ∙ ap (sets out at) (ec ∙ ap (xors (part at 16 p)) still))
+            ∙ ap (sets o from) (sym (xors-append (part from (16 * i) p) (part from (16 * i) o) (part at 16 p) (part at 16 o) (kp ∙ sym ko))
+            ∙ ap₂ xors (sym (part-more p from (16 * i) 16)) (sym (part-more o from (16 * i) 16))
+            ∙ ap (λ (k : ℕ). xors (part from k p) (part from k o)) (sym e));
+      }
+
+  pub xored-all : {i : ℕ} {out : List ℕ} → n ≤ i → Xored p o from n i out → out ≡ sets o from (xors (part from (16 * n) p) (part from (16 * n) o))
+  xored-all {i} h m = m .written ∙ ap (λ (k : ℕ). sets o from (xors (part from (16 * k) p) (part from (16 * k) o))) (let e : i ≡ n = omega (arith, m .at-most) in e)
+
+-- k blocks drawn into the output, and then xored
+pub drawn-xored : (p o : List ℕ) (r : Registers) (i k : ℕ) {o₁ o₂ : List ℕ} → IsRegisters r → i + 16 * k ≤ length p → i + 16 * k ≤ length o
+    → o₁ ≡ sets o i (blocks forward k r) → o₂ ≡ sets o₁ i (xors (part i (16 * k) p) (part i (16 * k) o₁))
+    → o₂ ≡ sets o i (under-blocks r k (slice i (i + 16 * k) p))
+drawn-xored p o r i k {o₁} {o₂} g read room e₁ e₂ =
+    let ks = blocks forward k r in
+    let long : length ks ≡ 16 * k = blocks-length forward k r g in
+    let n = part-long p i (16 * k) read in
+    let x = xors (part i (16 * k) p) ks in
+    let kx : length x ≡ 16 * k = xors-length (part i (16 * k) p) ks (n ∙ sym long) ∙ n in
+    let stands : part i (16 * k) o₁ ≡ ks = ap (part i (16 * k)) e₁ ∙ read-written o i (16 * k) ks long room in
+    e₂ ∙ ap₂ (λ (l v : List ℕ). sets l i (xors (part i (16 * k) p) v)) e₁ stands ∙ sets-over o ks x i (long ∙ sym kx) (omega arith)
+    ∙ ap (λ (l : List ℕ). sets o i (xors l ks)) (sym (slice-take i (16 * k) p))

@@ -9,11 +9,10 @@ use borrow.Author.Tests.{ne-eqb}
 use lib.ListN.{length, drop, getD, set}
 use lib.Seq.{sets, drop-cons, slice, slice-cons, slice-empty}
 use Rattle.words.specs.Xor.{_⊕_, xors}
-use Rattle.ghash.specs.Hash.{eat}
 use Rattle.cipher.specs.Step.{z, step}
-use Rattle.digest.specs.Sum.{Sum, fresh}
+use Rattle.digest.specs.Sum.{Sum}
 use Rattle.digest.specs.Digest.{absorb}
-use Rattle.digest.proofs.Pieces.{absorb-inside, absorb-fills, absorb-block}
+use Rattle.digest.proofs.Pieces.{absorb-inside, absorb-fills}
 use Rattle.session.specs.Session.{Session}
 use Rattle.session.specs.Pieces.{byte-current, byte-out, byte-taken, text-taken, text-out}
 use Rattle.session.specs.Inner.{ready, masked, counted, sent-on, held}
@@ -126,15 +125,6 @@ module _ (s : Session) (p : List ℕ) (start : s .text % 16 ≡ 0) (n : length p
 
   pub block-out : text-out s p ≡ xors p (z (s .registers))
   block-out = within-out s p (omega arith) drawn-long (omega arith) ∙ ap (λ (v : Session). masked v p) at-start ∙ rw start
-
-  pub block-taken-is : length (s .sum .pending) ≡ 16
-      → text-taken s p ≡ counted (drawn s) (s .text + 16) (fresh (eat (s .h) (s .sum .hash) (xors p (z (s .registers)))))
-  block-taken-is l =
-      let y = fresh (eat (s .h) (s .sum .hash) (xors p (z (s .registers)))) in
-      let m : length (text-out s p) ≡ 16 = out-length s p ∙ n in
-      let e : text-taken s p .sum ≡ y =
-      text-sum s p ∙ absorb-block (s .h) (s .sum) (s .text) (text-out s p) l start m ∙ ap (λ (c : List ℕ). fresh (eat (s .h) (s .sum .hash) c)) block-out in
-      all-but s p (omega arith) drawn-long (omega arith) y e ∙ rw (at-start, n)
 
 -- ---- byte by byte, as a loop writes them: into l from place j on, text from place i on, under key bytes from place k on
 

@@ -9,16 +9,17 @@ use lib.Seq.{sets}
 use Rattle.scope.specs.Refusals.{pick}
 use Rattle.words.specs.Xor.{xors}
 use Rattle.words.specs.Machine.{bytesOf}
-use Rattle.aes.specs.Field.{sub}
 use Rattle.aes.specs.Tables.{Holds}
-use Rattle.ghash.specs.Hash.{eat}
+use Rattle.wide_round.specs.Wide.{wide}
+use Rattle.ghash.specs.Hash.{eat, hashFrom}
 use Rattle.ghash.specs.Machine.{Table}
 use Rattle.cipher.specs.Registers.{Registers}
 use Rattle.cipher.specs.Step.{z, step}
+use Rattle.cipher.specs.Run.{forward, moves, blocks}
 use Rattle.cipher.specs.Machine.{registersOf}
 use Rattle.digest.specs.Sum.{Sum, fresh}
 use Rattle.digest.specs.Machine.{sumOf}
-use Rattle.session.specs.declared.blocks.Lane.{Lane}
+use Rattle.session.specs.declared.blocks.Track as machine
 use Rattle.session.specs.Session.{Session}
 use Rattle.session.specs.Pieces.{byte-current}
 
@@ -77,13 +78,21 @@ pub record Track : Type 0 where
   pub current : List ℕ
   pub sum : Sum
 
-abbrev pub trackOf : Lane → Track
-trackOf l = record { registers = registersOf (l .state); current = bytesOf (l .z); sum = sumOf (l .held) }
+abbrev pub trackOf : machine.Track → Track
+trackOf t = record { registers = registersOf (t .state); current = bytesOf (t .z); sum = sumOf (t .held) }
 
--- a whole block of text
-abbrev pub block-taken : (h : List ℕ) → Track → (p : List ℕ) → Track
-block-taken h l p =
-    record { registers = step (l .registers); current = z (l .registers); sum = fresh (eat h (l .sum .hash) (xors p (z (l .registers)))) }
+-- n blocks of text under as many of keystream
+abbrev pub under-blocks : Registers → (n : ℕ) → (p : List ℕ) → List ℕ
+under-blocks s n p = xors p (blocks forward n s)
+
+-- n whole blocks of text, at least one
+abbrev pub blocks-taken : (h : List ℕ) → Track → (n : ℕ) → (p : List ℕ) → Track
+blocks-taken h t n p =
+    record {
+      registers = moves forward n (t .registers);
+      current = z (moves forward (n - 1) (t .registers));
+      sum = fresh (hashFrom h (t .sum .hash) (under-blocks (t .registers) n p));
+    }
 
 -- ---- what is asked
 
@@ -100,7 +109,7 @@ pub record Blocks (text p o from to : ℕ) : Type 0 where
   pub start : text % 16 ≡ 0
   pub whole : (to - from) % 16 ≡ 0
 
--- the lent tables: the S-box, and that of H
-pub record Lent (h sbox table : List ℕ) : Type 0 where
-  pub box : Holds sub sbox
+-- the lent tables: that of the rounds, and that of H
+pub record Lent (h rounds table : List ℕ) : Type 0 where
+  pub of-rounds : Holds wide rounds
   pub of-h : Table h table

@@ -1,35 +1,35 @@
 // A piece of text by blocks: up to the end of the block in use, whole blocks, and the rest.
 ghost use mathlib.Core.Path.{_≡_};
 ghost use mathlib.Core.List.{_++_};
-ghost use Prim.Native.Nat.{_+_, _-_, _%_, _<_, _≤_};
+ghost use Prim.Native.Nat.{_+_, _-_, _*_, _%_, _<_, _≤_};
 ghost use lib.ListN.{length, drop};
 ghost use lib.Seq.{sets, slice};
 ghost use Rattle.words.specs.Xor.{xors};
-ghost use Rattle.aes.specs.Field.{sub};
 ghost use Rattle.aes.specs.Tables.{Holds};
-ghost use Rattle.ghash.specs.Machine.{bytesOfElement, Table};
-ghost use Rattle.cipher.specs.Step.{z};
+ghost use Rattle.wide_round.specs.Wide.{wide};
+ghost use Rattle.ghash.specs.Machine.{bytesOfElement};
 ghost use Rattle.cipher.specs.Machine.{registersOf};
 ghost use Rattle.session.specs.Pieces.{text-taken, text-out};
 ghost use Rattle.session.specs.Machine.{sessionOf};
 ghost use Rattle.session.specs.Inner as Inner;
-ghost use Rattle.session.specs.Inner.{ready, masked, trackOf, block-taken, Part, Blocks, Lent};
+ghost use Rattle.session.specs.Inner.{ready, masked, trackOf, under-blocks, blocks-taken, Part, Blocks, Lent};
 use crate::Session;
 use cipher::State;
+use cipher::lanes;
 use digest::Held;
 use ghash::Element;
 use words::Block;
 
 // A block is drawn where the next byte is the first of one, and not before.
-fn drawn(s: Session, sbox: &[u8; 256]) -> Session
-    requires { ⌜ Holds sub (now sbox) ⌝ }
+fn drawn(s: Session, rounds: &[u32; 256]) -> Session
+    requires { ⌜ Holds wide (now rounds) ⌝ }
     ensures { λ r. ⌜ sessionOf r ≡ ready (sessionOf s) ⌝ }
 {
     if s.text % 16 != 0 {
         return s;
     }
     let old = s.state;
-    let w = cipher::forward(old, sbox);
+    let w = lanes::forward(old, rounds);
     let state = w.state;
     let z = w.z;
     let mut r = s;
@@ -72,13 +72,13 @@ fn hold(
     out: &mut [u8],
     from: usize,
     to: usize,
-    sbox: &[u8; 256],
+    rounds: &[u32; 256],
 ) -> Session
-    requires { ⌜ Part (s .text) (length (now piece)) (length (now out)) from to × (s .text % 16 + (to - from) ≤ 16) × Holds sub (now sbox) ⌝ }
+    requires { ⌜ Part (s .text) (length (now piece)) (length (now out)) from to × (s .text % 16 + (to - from) ≤ 16) × Holds wide (now rounds) ⌝ }
     ensures session { λ r. ⌜ sessionOf r ≡ Inner.held (ready (sessionOf s)) (slice from to (now (piece .entry))) ⌝ }
     ensures out { λ _. ⌜ now (out .exit) ≡ sets (now (out .entry)) from (masked (ready (sessionOf s)) (slice from to (now (piece .entry)))) ⌝ }
 {
-    let mut r = drawn(s, sbox);
+    let mut r = drawn(s, rounds);
     let d = r.held;
     let acc = d.acc;
     let p = d.pending;
@@ -102,16 +102,16 @@ fn few(
     out: &mut [u8],
     from: usize,
     to: usize,
-    sbox: &[u8; 256],
+    rounds: &[u32; 256],
 ) -> Session
-    requires { ⌜ Part (s .text) (length (now piece)) (length (now out)) from to × (s .text % 16 + (to - from) < 16) × Holds sub (now sbox) ⌝ }
+    requires { ⌜ Part (s .text) (length (now piece)) (length (now out)) from to × (s .text % 16 + (to - from) < 16) × Holds wide (now rounds) ⌝ }
     ensures session { λ r. ⌜ sessionOf r ≡ text-taken (sessionOf s) (slice from to (now (piece .entry))) ⌝ }
     ensures out { λ _. ⌜ now (out .exit) ≡ sets (now (out .entry)) from (text-out (sessionOf s) (slice from to (now (piece .entry)))) ⌝ }
 {
     if to <= from {
         return s;
     }
-    hold(s, piece, out, from, to, sbox)
+    hold(s, piece, out, from, to, rounds)
 }
 
 // Text that fills its block, which is sent on. At the start of a block there is nothing to fill.
@@ -121,17 +121,17 @@ fn full(
     out: &mut [u8],
     from: usize,
     to: usize,
-    sbox: &[u8; 256],
+    rounds: &[u32; 256],
     table: &[u64; 1024],
 ) -> Session
-    requires { ⌜ Part (s .text) (length (now piece)) (length (now out)) from to × (to - from ≡ (16 - s .text % 16) % 16) × Lent (bytesOfElement (s .h)) (now sbox) (now table) ⌝ }
+    requires { ⌜ Part (s .text) (length (now piece)) (length (now out)) from to × (to - from ≡ (16 - s .text % 16) % 16) × Lent (bytesOfElement (s .h)) (now rounds) (now table) ⌝ }
     ensures session { λ r. ⌜ sessionOf r ≡ text-taken (sessionOf s) (slice from to (now (piece .entry))) ⌝ }
     ensures out { λ _. ⌜ now (out .exit) ≡ sets (now (out .entry)) from (text-out (sessionOf s) (slice from to (now (piece .entry)))) ⌝ }
 {
     if from == to {
         return s;
     }
-    let mut r = hold(s, piece, out, from, to, sbox);
+    let mut r = hold(s, piece, out, from, to, rounds);
     let h = s.h;
     let d = r.held;
     let y = d.acc;
@@ -146,42 +146,73 @@ fn full(
 }
 
 // What whole blocks move on.
-pub struct Lane {
+pub struct Track {
     pub state: State,
     pub z: Block,
     pub held: Held,
 }
 
-// One whole block.
-fn block(
-    l: Lane,
+// A batch of at most 16 whole blocks: a step as in `lanes::batch`, its z on the text, and the ciphertext hashed, block by block. All in one loop: a product waits for
+// the one before it, and the processor makes the step meanwhile.
+fn sealed_batch(
+    t: Track,
     h: Element,
     piece: &[u8],
     out: &mut [u8],
-    at: usize,
-    sbox: &[u8; 256],
+    from: usize,
+    n: usize,
+    rounds: &[u32; 256],
     table: &[u64; 1024],
-) -> Lane
-    requires { ⌜ (at + 16 ≤ length (now piece)) × (at + 16 ≤ length (now out)) × Lent (bytesOfElement h) (now sbox) (now table) ⌝ }
-    ensures lane { λ r. ⌜ trackOf r ≡ block-taken (bytesOfElement h) (trackOf l) (slice at (at + 16) (now (piece .entry))) ⌝ }
-    ensures out { λ _. ⌜ now (out .exit) ≡ sets (now (out .entry)) at (xors (slice at (at + 16) (now (piece .entry))) (z (registersOf (l .state)))) ⌝ }
+) -> Track
+    requires { ⌜ (0 < n) × (n ≤ 16) × (from + 16 * n ≤ length (now piece)) × (from + 16 * n ≤ length (now out)) × Lent (bytesOfElement h) (now rounds) (now table) ⌝ }
+    ensures track { λ r. ⌜ trackOf r ≡ blocks-taken (bytesOfElement h) (trackOf t) n (slice from (from + 16 * n) (now (piece .entry))) ⌝ }
+    ensures out { λ _. ⌜ now (out .exit) ≡ sets (now (out .entry)) from (under-blocks (registersOf (t .state)) n (slice from (from + 16 * n) (now (piece .entry)))) ⌝ }
 {
-    let old = l.state;
-    let d = l.held;
-    let y = d.acc;
-    let w = cipher::forward(old, sbox);
-    let state = w.state;
-    let z = w.z;
-    let c = words::xor(words::load(piece, at), z);
-    words::store(out, at, c);
-    // as halves: a block of four words that is read again as two stalls the processor
-    let v = ghash::absorb_element(y, ghash::from_block(c), h, table);
+    let s = t.state;
+    let d = t.held;
+    let mut y = d.acc;
+    let mut z = t.z;
+    let old = s.lfsr;
+    let r1 = s.r1;
+    let r2 = s.r2;
+    let mut r3 = s.r3;
+    let mut t1 = [0u16; 128];
+    let mut t2 = [0u16; 128];
+    let mut l1 = [0u8; 272];
+    let mut l2 = [0u8; 272];
+    let mut m = [0u8; 512];
+    let l = lanes::taps(old, &mut t1, &mut t2, n);
+    words::store(&mut l1, 0, r1);
+    words::store(&mut l2, 0, r2);
+    let mut i: usize = 0;
+    while i < n {
+        let at = 16 * i;
+        let next = at + 16;
+        let n1 = lanes::next_r1(&l2, at, r3, lanes::tap(&t2, i));
+        words::store(&mut l1, next, n1);
+        let n2 = wide_round::round_at(&l1, at, rounds);
+        let n3 = wide_round::round_at(&l2, at, rounds);
+        words::store(&mut l2, next, n2);
+        r3 = n3;
+        z = lanes::output(&l1, &l2, at, lanes::tap(&t1, i));
+        let c = words::xor(words::load(piece, from + at), z);
+        words::store(out, from + at, c);
+        y = ghash::absorb_at(y, ghash::from_block(c), h, table, &mut m, 32 * i);
+        i += 1;
+    }
+    let q1 = words::load(&l1, 16 * n);
+    let q2 = words::load(&l2, 16 * n);
+    let mut r = s;
+    r.lfsr = l;
+    r.r1 = q1;
+    r.r2 = q2;
+    r.r3 = r3;
     let e = Held {
-        acc: v,
+        acc: y,
         pending: [0; 16],
     };
-    Lane {
-        state: state,
+    Track {
+        state: r,
         z: z,
         held: e,
     }
@@ -194,10 +225,10 @@ fn blocks(
     out: &mut [u8],
     from: usize,
     to: usize,
-    sbox: &[u8; 256],
+    rounds: &[u32; 256],
     table: &[u64; 1024],
 ) -> Session
-    requires { ⌜ Blocks (s .text) (length (now piece)) (length (now out)) from to × Lent (bytesOfElement (s .h)) (now sbox) (now table) ⌝ }
+    requires { ⌜ Blocks (s .text) (length (now piece)) (length (now out)) from to × Lent (bytesOfElement (s .h)) (now rounds) (now table) ⌝ }
     ensures session { λ r. ⌜ sessionOf r ≡ text-taken (sessionOf s) (slice from to (now (piece .entry))) ⌝ }
     ensures out { λ _. ⌜ now (out .exit) ≡ sets (now (out .entry)) from (text-out (sessionOf s) (slice from to (now (piece .entry)))) ⌝ }
 {
@@ -205,20 +236,21 @@ fn blocks(
     let first = s.state;
     let drawn = s.current;
     let d = s.held;
-    let mut l = Lane {
+    let mut t = Track {
         state: first,
         z: drawn,
         held: d,
     };
     let mut i = from;
     while i < to {
-        let m = block(l, h, piece, out, i, sbox, table);
-        l = m;
-        i += 16;
+        let k = lanes::at_most((to - i) / 16);
+        let u = sealed_batch(t, h, piece, out, i, k, rounds, table);
+        t = u;
+        i += 16 * k;
     }
-    let state = l.state;
-    let z = l.z;
-    let e = l.held;
+    let state = t.state;
+    let z = t.z;
+    let e = t.held;
     let mut r = s;
     r.text = s.text + ((to - from) as u64);
     r.state = state;
@@ -228,31 +260,31 @@ fn blocks(
 }
 
 // A piece that fills no block.
-pub fn short_text(s: Session, piece: &[u8], out: &mut [u8]) -> Session
-    requires { ⌜ Part (s .text) (length (now piece)) (length (now out)) 0 (length (now piece)) × (s .text % 16 + length (now piece) < 16) ⌝ }
+pub fn short_text(s: Session, piece: &[u8], out: &mut [u8], rounds: &[u32; 256]) -> Session
+    requires { ⌜ Part (s .text) (length (now piece)) (length (now out)) 0 (length (now piece)) × (s .text % 16 + length (now piece) < 16) × Holds wide (now rounds) ⌝ }
     ensures session { λ r. ⌜ sessionOf r ≡ text-taken (sessionOf s) (now (piece .entry)) ⌝ }
     ensures out { λ _. ⌜ now (out .exit) ≡ text-out (sessionOf s) (now (piece .entry)) ++ drop (length (now (piece .entry))) (now (out .entry)) ⌝ }
 {
-    let n = piece.len();
-    if n == 0 {
-        return s;
-    }
-    let sbox = aes::sbox();
-    few(s, piece, out, 0, n, &sbox)
+    few(s, piece, out, 0, piece.len(), rounds)
 }
 
 // A piece that fills a block: up to the end of the block in use, whole blocks, the rest.
-pub fn long_text(s: Session, piece: &[u8], out: &mut [u8], table: &[u64; 1024]) -> Session
-    requires { ⌜ Part (s .text) (length (now piece)) (length (now out)) 0 (length (now piece)) × (16 ≤ s .text % 16 + length (now piece)) × Table (bytesOfElement (s .h)) (now table) ⌝ }
+pub fn long_text(
+    s: Session,
+    piece: &[u8],
+    out: &mut [u8],
+    rounds: &[u32; 256],
+    table: &[u64; 1024],
+) -> Session
+    requires { ⌜ Part (s .text) (length (now piece)) (length (now out)) 0 (length (now piece)) × (16 ≤ s .text % 16 + length (now piece)) × Lent (bytesOfElement (s .h)) (now rounds) (now table) ⌝ }
     ensures session { λ r. ⌜ sessionOf r ≡ text-taken (sessionOf s) (now (piece .entry)) ⌝ }
     ensures out { λ _. ⌜ now (out .exit) ≡ text-out (sessionOf s) (now (piece .entry)) ++ drop (length (now (piece .entry))) (now (out .entry)) ⌝ }
 {
     let n = piece.len();
-    let sbox = aes::sbox();
     let at = (s.text % 16) as usize;
     let head = (16 - at) % 16;
     let tail = head + (n - head) / 16 * 16;
-    let u = full(s, piece, out, 0, head, &sbox, table);
-    let v = blocks(u, piece, out, head, tail, &sbox, table);
-    few(v, piece, out, tail, n, &sbox)
+    let u = full(s, piece, out, 0, head, rounds, table);
+    let v = blocks(u, piece, out, head, tail, rounds, table);
+    few(v, piece, out, tail, n, rounds)
 }

@@ -1,20 +1,48 @@
-// What a whole page is made of: the calls once they are accepted, with the table of H lent, so that one table serves them all; and the keystream
+// What a whole page is made of: the calls with their tables lent, that of the rounds and that of H, so that one of each serves a page; and the keystream
 // alone, for a page that is opened.
 ghost use mathlib.Core.Path.{_≡_};
 ghost use mathlib.Core.List.{_++_};
-ghost use Prim.Native.Nat.{_+_, _%_, _^_, _<_, _≤_};
+ghost use Prim.Native.Nat.{_+_, _*_, _%_, _^_, _<_, _≤_};
 ghost use lib.ListN.{length, drop};
+ghost use lib.Seq.{sets};
+ghost use Rattle.words.specs.Bytes.{part};
+ghost use Rattle.aes.specs.Tables.{Holds};
+ghost use Rattle.wide_round.specs.Wide.{wide};
 ghost use Rattle.words.specs.Xor.{xors};
 ghost use Rattle.words.specs.Machine.{bytesOf};
 ghost use Rattle.ghash.specs.Hash.{lengths, eat};
 ghost use Rattle.ghash.specs.Machine.{bytesOfElement, Table};
 ghost use Rattle.session.specs.Pieces.{data-taken, closed, tag-of, text-taken, text-out};
-ghost use Rattle.session.specs.Machine.{sessionOf};
-ghost use Rattle.session.specs.Inner.{Part};
+ghost use Rattle.session.specs.Calls.{begin-call};
+ghost use Rattle.session.specs.Machine.{sessionOf, Says};
+ghost use Rattle.session.specs.Inner.{Part, Lent};
+use crate::Said;
 use crate::Session;
 use crate::blocks;
+use cipher::lanes;
 use ghash::Element;
+use start::Mode;
 use words::Block;
+
+// As `begin`, with the table of the rounds lent.
+pub fn begin_with(key: &[u8], iv: &[u8], rounds: &[u32; 256]) -> Said
+    requires { ⌜ Holds wide (now rounds) ⌝ }
+    ensures { λ r. ⌜ Says (begin-call (now (key .entry)) (now (iv .entry))) r ⌝ }
+{
+    let t = start::start_with(key, iv, Mode::Sealed, rounds);
+    let answer = t.answer;
+    let s = t.state;
+    if answer != 0 {
+        return Said {
+            answer: answer,
+            session: crate::no_session(),
+        };
+    }
+    Said {
+        answer: scope::ACCEPTED,
+        session: crate::opened(s, rounds),
+    }
+}
 
 // An accepted piece of associated data.
 pub fn data_with(s: Session, piece: &[u8], table: &[u64; 1024]) -> Session
@@ -44,27 +72,23 @@ pub fn close_with(s: Session, table: &[u64; 1024]) -> Session
 }
 
 // An accepted piece of text. Any, even an empty one, closes the data.
-pub fn text_with(s: Session, piece: &[u8], out: &mut [u8], table: &[u64; 1024]) -> Session
-    requires { ⌜ Part (s .text) (length (now piece)) (length (now out)) 0 (length (now piece)) × Table (bytesOfElement (s .h)) (now table) ⌝ }
+pub fn text_with(
+    s: Session,
+    piece: &[u8],
+    out: &mut [u8],
+    rounds: &[u32; 256],
+    table: &[u64; 1024],
+) -> Session
+    requires { ⌜ Part (s .text) (length (now piece)) (length (now out)) 0 (length (now piece)) × Lent (bytesOfElement (s .h)) (now rounds) (now table) ⌝ }
     ensures session { λ r. ⌜ sessionOf r ≡ text-taken (closed (sessionOf s)) (now (piece .entry)) ⌝ }
     ensures out { λ _. ⌜ now (out .exit) ≡ text-out (closed (sessionOf s)) (now (piece .entry)) ++ drop (length (now (piece .entry))) (now (out .entry)) ⌝ }
 {
     let u = close_with(s, table);
     let at = (s.text % 16) as usize;
     if piece.len() < 16 - at {
-        return blocks::short_text(u, piece, out);
+        return blocks::short_text(u, piece, out, rounds);
     }
-    blocks::long_text(u, piece, out, table)
-}
-
-// Both lengths in bits, high byte first.
-fn bits(ad: u64, text: u64) -> Block
-    ensures { λ r. ⌜ bytesOf r ≡ lengths ad text ⌝ }
-{
-    ghash::to_block(Element {
-        hi: ad % 0x2000000000000000 * 8,
-        lo: text % 0x2000000000000000 * 8,
-    })
+    blocks::long_text(u, piece, out, rounds, table)
 }
 
 // The tag of a session whose data and ciphertext, each padded, have the hash y: both lengths last, xor the end pad.
@@ -74,7 +98,7 @@ pub fn tag_from(s: Session, y: Element, table: &[u64; 1024]) -> Block
 {
     let h = s.h;
     let pad = s.pad;
-    let v = ghash::absorb(y, bits(s.ad, s.text), h, table);
+    let v = ghash::absorb_element(y, ghash::lengths(s.ad, s.text), h, table);
     words::xor(ghash::to_block(v), pad)
 }
 
@@ -90,25 +114,41 @@ pub fn tag_with(s: Session, table: &[u64; 1024]) -> Block
     tag_from(s, y, table)
 }
 
+// n blocks of the input xored to those that stand in the output, from a place of both on.
+fn xor_in(input: &[u8], out: &mut [u8], from: usize, n: usize)
+    requires { ⌜ (from + 16 * n ≤ length (now input)) × (from + 16 * n ≤ length (now out)) ⌝ }
+    ensures { λ _. ⌜ now (out .exit) ≡ sets (now (out .entry)) from (xors (part from (16 * n) (now (input .entry))) (part from (16 * n) (now (out .entry)))) ⌝ }
+{
+    let mut i: usize = 0;
+    while i < n {
+        let at = from + 16 * i;
+        words::store(
+            out,
+            at,
+            words::xor(words::load(input, at), words::load(out, at)),
+        );
+        i += 1;
+    }
+}
+
 // What `text` would write, from the start of a block on, with nothing hashed: of a ciphertext, its text.
-pub fn apply_keystream(s: Session, input: &[u8], out: &mut [u8])
-    requires { ⌜ (s .text % 16 ≡ 0) × (length (now input) ≤ length (now out)) ⌝ }
+pub fn apply_keystream(s: Session, input: &[u8], out: &mut [u8], rounds: &[u32; 256])
+    requires { ⌜ (s .text % 16 ≡ 0) × (length (now input) ≤ length (now out)) × Holds wide (now rounds) ⌝ }
     ensures { λ _. ⌜ now (out .exit) ≡ text-out (sessionOf s) (now (input .entry)) ++ drop (length (now (input .entry))) (now (out .entry)) ⌝ }
 {
-    let sbox = aes::sbox();
     let n = input.len();
+    let to = n / 16 * 16;
     let mut state = s.state;
     let mut i: usize = 0;
-    while n - i >= 16 {
-        let w = cipher::forward(state, &sbox);
-        let next = w.state;
-        let z = w.z;
-        words::store(out, i, words::xor(words::load(input, i), z));
-        state = next;
-        i += 16;
+    while i < to {
+        let k = lanes::at_most((to - i) / 16);
+        let t = lanes::batch(state, rounds, out, i, k);
+        state = t;
+        xor_in(input, out, i, k);
+        i += 16 * k;
     }
     if i < n {
-        let w = cipher::forward(state, &sbox);
+        let w = lanes::forward(state, rounds);
         let z = w.z;
         blocks::under(words::to_bytes(z), [0; 16], 0, input, out, i, n);
     }

@@ -1,10 +1,11 @@
 // A sealing session: begin, then data pieces, then text pieces, then finish. The session goes in by value and comes back. A piece of text goes by
-// blocks in blocks.rt; lent.rt has the calls for whoever makes the table of H once for several.
+// blocks in blocks.rt; lent.rt has the calls for whoever makes the tables once for several.
 ghost use mathlib.Core.Path.{_≡_};
 ghost use mathlib.Core.List.{_++_};
 ghost use Prim.Native.Nat.{_+_, _^_, _<_};
 ghost use lib.ListN.{length, drop};
-ghost use Rattle.words.specs.Bytes.{zeros};
+ghost use Rattle.aes.specs.Tables.{Holds};
+ghost use Rattle.wide_round.specs.Wide.{wide};
 ghost use Rattle.ghash.specs.Machine.{bytesOfElement};
 ghost use Rattle.cipher.specs.Machine.{registersOf};
 ghost use Rattle.digest.specs.Machine.{sumOf};
@@ -19,9 +20,9 @@ mod blocks;
 pub mod lent;
 
 use cipher::State;
+use cipher::lanes;
 use digest::Held;
 use ghash::Element;
-use start::Mode;
 use words::Block;
 
 pub struct Session {
@@ -51,19 +52,13 @@ pub struct Finished {
     pub session: Session,
 }
 
-fn zero_element() -> Element
-    ensures { λ r. ⌜ bytesOfElement r ≡ zeros ⌝ }
-{
-    Element { hi: 0, lo: 0 }
-}
-
 // What a refused begin hands out in a session's place: finished, so that every call gives 7.
 pub fn no_session() -> Session
     ensures { λ r. ⌜ sessionOf r ≡ Calls.no-session ⌝ }
 {
     let blank = start::blank_state();
     let zero = words::zero();
-    let none = zero_element();
+    let none = ghash::zero();
     Session {
         phase: 2,
         ad: 0,
@@ -77,25 +72,22 @@ pub fn no_session() -> Session
 }
 
 // The session that an accepted begin gives: H and the end pad are drawn.
-fn opened(s: State) -> Session
+fn opened(s: State, rounds: &[u32; 256]) -> Session
+    requires { ⌜ Holds wide (now rounds) ⌝ }
     ensures { λ r. ⌜ sessionOf r ≡ begun-from (registersOf s) ⌝ }
 {
-    let sbox = aes::sbox();
-    let w = cipher::forward(s, &sbox);
-    let one = w.state;
-    let h = w.z;
-    let x = cipher::forward(one, &sbox);
-    let two = x.state;
-    let pad = x.z;
+    let mut two = [0u8; 32];
+    let state = lanes::batch(s, rounds, &mut two, 0, 2);
+    let pad = words::load(&two, 16);
     Session {
         phase: 0,
         ad: 0,
         text: 0,
-        state: two,
-        h: ghash::from_block(h),
+        state: state,
+        h: ghash::from_block(words::load(&two, 0)),
         pad: pad,
         current: pad,
-        held: digest::fresh(zero_element()),
+        held: digest::fresh(ghash::zero()),
     }
 }
 
@@ -103,19 +95,8 @@ fn opened(s: State) -> Session
 pub fn begin(key: &[u8], iv: &[u8]) -> Said
     ensures { λ r. ⌜ Says (begin-call (now (key .entry)) (now (iv .entry))) r ⌝ }
 {
-    let t = start::start(key, iv, Mode::Sealed);
-    let answer = t.answer;
-    let s = t.state;
-    if answer != 0 {
-        return Said {
-            answer: answer,
-            session: no_session(),
-        };
-    }
-    Said {
-        answer: scope::ACCEPTED,
-        session: opened(s),
-    }
+    let rounds = wide_round::table();
+    lent::begin_with(key, iv, &rounds)
 }
 
 // n bytes more of data, which are hashed or held in e.
@@ -190,14 +171,15 @@ fn take_text(s: Session, piece: &[u8], out: &mut [u8]) -> Session
     ensures session { λ r. ⌜ sessionOf r ≡ text-taken (closed (sessionOf s)) (now (piece .entry)) ⌝ }
     ensures out { λ _. ⌜ now (out .exit) ≡ text-out (closed (sessionOf s)) (now (piece .entry)) ++ drop (length (now (piece .entry))) (now (out .entry)) ⌝ }
 {
+    let rounds = wide_round::table();
     let at = (s.text % 16) as usize;
     if piece.len() < 16 - at {
-        return blocks::short_text(close(s), piece, out);
+        return blocks::short_text(close(s), piece, out, &rounds);
     }
     let h = s.h;
     let mut table = [0u64; 1024];
     ghash::fill(&mut table, h);
-    lent::text_with(s, piece, out, &table)
+    lent::text_with(s, piece, out, &rounds, &table)
 }
 
 // Seals a piece of text into the front of `out`; the first piece closes the data. Refused: 7 after finish, 3 where the text would be over

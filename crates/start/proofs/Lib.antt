@@ -4,3 +4,4 @@ pub mod Unloading
 pub mod Splitting
 pub mod Answers
 pub mod Tracing
+pub mod Feeding

@@ -1,12 +1,13 @@
 // Start in plain and in sealed mode, and trace: from a state back to the IV and mode that lead to it.
 ghost use mathlib.Core.Path.{_≡_};
 ghost use mathlib.Core.List.{_++_};
-ghost use Prim.Native.Nat.{_+_};
+ghost use Prim.Native.Nat.{_+_, _≤_};
 ghost use Rattle.words.specs.Bytes.{little, littles, numbers};
 ghost use Rattle.words.specs.Machine.{bytesOf};
-ghost use Rattle.aes.specs.Field.{sub};
 ghost use Rattle.aes.specs.Unround.{unsub};
 ghost use Rattle.aes.specs.Tables.{Holds};
+ghost use Rattle.wide_round.specs.Wide.{wide};
+ghost use Rattle.lfsr.specs.Machine.{lfsrOf};
 ghost use Rattle.cipher.specs.Run.{backward, moves};
 ghost use Rattle.cipher.specs.Machine.{registersOf};
 ghost use Rattle.start.specs.Start;
@@ -15,9 +16,11 @@ ghost use Rattle.start.specs.Leads;
 ghost use Rattle.start.specs.Leads.{Traces};
 ghost use Rattle.start.specs.Trace;
 ghost use Rattle.start.specs.Machine.{modeOf, Initials, Starts, tracedOf};
+ghost use Rattle.start.specs.Inner;
 ghost use Rattle.start.specs.Inner.{walk-number};
 use cipher::Moved;
 use cipher::State;
+use cipher::lanes;
 use lfsr::Lfsr;
 use words::Block;
 
@@ -82,14 +85,21 @@ pub fn load(low: Block, high: Block, iv: Block, mode: Mode) -> State
 }
 
 // A block xored into a8 to a15.
+fn fed(l: Lfsr, x: Block) -> Lfsr
+    ensures { λ r. ⌜ lfsrOf r ≡ Inner.fed (bytesOf x) (lfsrOf l) ⌝ }
+{
+    let a = l.a;
+    let b = l.b;
+    let n = cells(cipher::low_half(a), words::xor(cipher::high_half(a), x));
+    Lfsr { a: n, b: b }
+}
+
+// The same of a state.
 fn into_a(s: State, x: Block) -> State
     ensures { λ r. ⌜ registersOf r ≡ Start.into-a (bytesOf x) (registersOf s) ⌝ }
 {
     let l = s.lfsr;
-    let a = l.a;
-    let b = l.b;
-    let n = cells(cipher::low_half(a), words::xor(cipher::high_half(a), x));
-    let m = Lfsr { a: n, b: b };
+    let m = fed(l, x);
     let mut r = s;
     r.lfsr = m;
     r
@@ -107,30 +117,55 @@ pub fn into_r1(s: State, x: Block) -> State
 }
 
 // One of the 16 steps of a start, with the z that it gives.
-pub fn initial(s: State, sbox: &[u8; 256]) -> Moved
-    requires { ⌜ Holds sub (now sbox) ⌝ }
+pub fn initial(s: State, rounds: &[u32; 256]) -> Moved
+    requires { ⌜ Holds wide (now rounds) ⌝ }
     ensures { λ r. ⌜ Initials s r ⌝ }
 {
-    let w = cipher::forward(s, sbox);
+    let w = lanes::forward(s, rounds);
     let n = w.state;
     let z = w.z;
     let m = into_a(n, z);
     Moved { state: m, z: z }
 }
 
-fn initials(s: State, n: usize, sbox: &[u8; 256]) -> State
-    requires { ⌜ Holds sub (now sbox) ⌝ }
+// At most 16 of them, R1 and R2 in lanes as in `lanes::batch`. Register A takes every z in, so that A and B go step by step too.
+fn initials(s: State, n: usize, rounds: &[u32; 256]) -> State
+    requires { ⌜ (n ≤ 16) × Holds wide (now rounds) ⌝ }
     ensures { λ r. ⌜ registersOf r ≡ Start.initials n (registersOf s) ⌝ }
 {
-    let mut t = s;
-    let mut i = 0;
+    let r1 = s.r1;
+    let r2 = s.r2;
+    let mut r3 = s.r3;
+    let mut l = s.lfsr;
+    let mut t1 = [0u16; 128];
+    let mut t2 = [0u16; 128];
+    let mut l1 = [0u8; 272];
+    let mut l2 = [0u8; 272];
+    words::store(&mut l1, 0, r1);
+    words::store(&mut l2, 0, r2);
+    let mut i: usize = 0;
     while i < n {
-        let w = initial(t, sbox);
-        let u = w.state;
-        t = u;
+        let at = 16 * i;
+        let next = at + 16;
+        let m = lanes::taps(l, &mut t1, &mut t2, 1);
+        let n1 = lanes::next_r1(&l2, at, r3, lanes::tap(&t2, 0));
+        words::store(&mut l1, next, n1);
+        let n2 = wide_round::round_at(&l1, at, rounds);
+        let n3 = wide_round::round_at(&l2, at, rounds);
+        words::store(&mut l2, next, n2);
+        r3 = n3;
+        let k = fed(m, lanes::output(&l1, &l2, at, lanes::tap(&t1, 0)));
+        l = k;
         i += 1;
     }
-    t
+    let q1 = words::load(&l1, 16 * n);
+    let q2 = words::load(&l2, 16 * n);
+    let mut r = s;
+    r.lfsr = l;
+    r.r1 = q1;
+    r.r2 = q2;
+    r.r3 = r3;
+    r
 }
 
 // The state that a start leads to, and an answer: 0, or the refusal's number, and then the state is all zero.
@@ -139,13 +174,12 @@ pub struct Started {
     pub state: State,
 }
 
-fn sixteen_steps(low: Block, high: Block, iv: Block, mode: Mode) -> State
+fn sixteen_steps(low: Block, high: Block, iv: Block, mode: Mode, rounds: &[u32; 256]) -> State
+    requires { ⌜ Holds wide (now rounds) ⌝ }
     ensures { λ r. ⌜ registersOf r ≡ Start.start (bytesOf low ++ bytesOf high) (bytesOf iv) (modeOf mode) ⌝ }
 {
-    let sbox = aes::sbox();
-    let s = initials(load(low, high, iv, mode), 15, &sbox);
-    let w = initial(into_r1(s, low), &sbox);
-    let t = w.state;
+    let s = initials(load(low, high, iv, mode), 15, rounds);
+    let t = initials(into_r1(s, low), 1, rounds);
     into_r1(t, high)
 }
 
@@ -179,8 +213,9 @@ pub fn lengths(key: &[u8], iv: &[u8]) -> u64
     scope::ACCEPTED
 }
 
-// Start under a key of 32 bytes with an IV of 16, in either mode. Refused: 1 for the key's length, 2 for the IV's.
-pub fn start(key: &[u8], iv: &[u8], mode: Mode) -> Started
+// As `start`, with the table of the round lent.
+pub fn start_with(key: &[u8], iv: &[u8], mode: Mode, rounds: &[u32; 256]) -> Started
+    requires { ⌜ Holds wide (now rounds) ⌝ }
     ensures { λ r. ⌜ Starts (now (key .entry)) (now (iv .entry)) (modeOf mode) r ⌝ }
 {
     let answer = lengths(key, iv);
@@ -197,8 +232,17 @@ pub fn start(key: &[u8], iv: &[u8], mode: Mode) -> Started
             words::load(key, 16),
             words::load(iv, 0),
             mode,
+            rounds,
         ),
     }
+}
+
+// Start under a key of 32 bytes with an IV of 16, in either mode. Refused: 1 for the key's length, 2 for the IV's.
+pub fn start(key: &[u8], iv: &[u8], mode: Mode) -> Started
+    ensures { λ r. ⌜ Starts (now (key .entry)) (now (iv .entry)) (modeOf mode) r ⌝ }
+{
+    let rounds = wide_round::table();
+    start_with(key, iv, mode, &rounds)
 }
 
 // One of the 16 steps of a start, undone.

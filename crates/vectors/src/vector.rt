@@ -76,14 +76,14 @@ fn after_step(s: State, low: Block, step: usize) -> State {
 
 // The z of each of the 16 steps of a start in plain mode.
 fn initialisation(key: [u8; 32], iv: [u8; 16]) -> [u8; 256] {
-    let sbox = aes::sbox();
+    let rounds = wide_round::table();
     let low = words::load(&key, 0);
     let high = words::load(&key, 16);
     let mut out = [0u8; 256];
     let mut s = start::load(low, high, words::load(&iv, 0), Mode::Plain);
     let mut i = 0;
     while i < 16 {
-        let w = start::initial(s, &sbox);
+        let w = start::initial(s, &rounds);
         let t = w.state;
         let z = w.z;
         words::store(&mut out, 16 * i, z);

@@ -3,7 +3,7 @@ use mathlib.Core.Path.{_≡_, refl, sym, ap, ap₂, _∙_}
 use mathlib.Core.List.{List, [], _∷_, _++_}
 use Prim.Native.Nat.{ℕ, zero, suc, _+_, _-_, _≤_, _<_}
 use native.Mathlib.Omega.{arith}
-use lib.ListN.{length, take, drop, getD}
+use lib.ListN.{length, take, drop, getD, length-take, length-drop}
 use lib.Seq.{take-at, drop-at, drop-cons, drop-drop, take-take, take-add}
 use Rattle.words.specs.Bytes.{part, joined, Row}
 use Rattle.words.proofs.Rows.{row-take, row-drop}
@@ -26,6 +26,17 @@ drop-take (suc h) (suc k) [] q = let e : suc k - suc h ≡ k - h = omega arith i
     nothing zero = refl
     nothing (suc n) = refl
 drop-take (suc h) (suc k) (x ∷ l) q = let e : suc k - suc h ≡ k - h = omega arith in rw e (drop-take h k l (omega arith))
+
+-- a part, as the end of a front
+pub part-front : (s : List ℕ) (at k : ℕ) → drop at (take (at + k) s) ≡ part at k s
+part-front s at k = drop-take at (at + k) s (omega arith) ∙ ap (λ (n : ℕ). take n (drop at s)) (let e : at + k - at ≡ k = omega arith in e)
+
+pub part-long : (s : List ℕ) (at k : ℕ) → at + k ≤ length s → length (part at k s) ≡ k
+part-long s at k h = simp (length-take, length-drop) (omega arith)
+
+-- a longer part
+pub part-more : (s : List ℕ) (at k m : ℕ) → part at (k + m) s ≡ part at k s ++ part (at + k) m s
+part-more s at k m = take-add k m (drop at s) ∙ ap (λ (l : List ℕ). part at k s ++ take m l) (drop-drop k at s)
 
 -- the end of a part
 pub part-behind : (s : List ℕ) (at k h : ℕ) → h ≤ k → drop h (part at k s) ≡ part (at + h) (k - h) s

@@ -1,13 +1,15 @@
 -- Runs of stores one behind the other, and the loops that write: what is left to write, written behind what stands there, makes the whole.
 -- Copying, hex digits from bytes and bytes from hex digits are one loop at three functions.
-use mathlib.Core.Path.{_≡_, refl, sym, ap, _∙_}
-use mathlib.Core.List.{List, [], _++_, append-nil}
+use mathlib.Core.Path.{_≡_, refl, sym, ap, ap₂, _∙_}
+use mathlib.Core.List.{List, [], _∷_, _++_, append-nil, append-assoc}
 use Prim.Native.Nat.{ℕ, suc, _+_, _-_, _/_, _%_, _≤_, _<_}
 use native.Mathlib.Omega.{arith}
-use lib.ListN.{length, set, take, drop, drop-of-length-le, length-append}
-use lib.Seq.{sets, length-sets, sets-eq, take-at, drop-length}
-use Rattle.words.specs.Bytes.{little}
+use native.Mathlib.Numerals.{add-one}
+use lib.ListN.{length, getD, set, take, drop, drop-of-length-le, length-append}
+use lib.Seq.{sets, length-sets, sets-eq, slice, slice-cons, slice-empty, take-at, drop-at, drop-length, take-set-le, drop-set-lt, length-take-le}
+use Rattle.words.specs.Bytes.{little, part}
 use Rattle.words.proofs.Rows.{sets-append}
+use Rattle.words.proofs.Parts.{part-front}
 
 -- ---- runs of stores
 
@@ -28,6 +30,47 @@ put-whole l v e =
 -- what was written at the front of a list
 pub front : (out vs : List ℕ) → length vs ≤ length out → take (length vs) (sets out 0 vs) ≡ vs
 front out vs h = ap (take (length vs)) (sets-eq vs out 0 (omega arith)) ∙ take-at vs (drop (0 + length vs) out) (length vs) refl
+
+-- ---- a part of a list, element by element
+
+pub put-turn : (q s : List ℕ) (k i to : ℕ) → i < to → to ≤ length s → sets (set q k (getD s i 0)) (k + 1) (slice (i + 1) to s) ≡ sets q k (slice i to s)
+put-turn q s k i to h r = rw (add-one k, add-one i, slice-cons i to s 0 h r)
+
+pub put-end : (q s : List ℕ) (k to : ℕ) → q ≡ sets q k (slice to to s)
+put-end q s k to = rw (slice-empty to s)
+
+-- ---- what was written, read again
+
+take-sets : (n : ℕ) (l : List ℕ) (i : ℕ) (vs : List ℕ) → n ≤ i → take n (sets l i vs) ≡ take n l
+take-sets n l i [] h = refl
+take-sets n l i (v ∷ vs) h = take-sets n (set l i v) (suc i) vs (omega arith) ∙ take-set-le n l i v h
+
+drop-sets : (n : ℕ) (l : List ℕ) (i : ℕ) (vs : List ℕ) → i + length vs ≤ n → drop n (sets l i vs) ≡ drop n l
+drop-sets n l i [] h = refl
+drop-sets n l i (v ∷ vs) h = drop-sets n (set l i v) (suc i) vs (omega arith) ∙ drop-set-lt n l i v (omega arith)
+
+-- what is written further back does not change a part
+pub read-behind : (l : List ℕ) (at k i : ℕ) (vs : List ℕ) → i + length vs ≤ at → part at k (sets l i vs) ≡ part at k l
+read-behind l at k i vs h = ap (take k) (drop-sets at l i vs h)
+
+-- a second run in the place of the first
+pub sets-over : (l v w : List ℕ) (i : ℕ) → length v ≡ length w → i + length w ≤ length l → sets (sets l i v) i w ≡ sets l i w
+sets-over l v w i e h =
+    let n = length-sets l i v in
+    sets-eq w (sets l i v) i (omega arith)
+    ∙ ap₂ (λ (x y : List ℕ). x ++ w ++ y) (take-sets i l i v (omega arith)) (drop-sets (i + length w) l i v (omega arith))
+    ∙ sym (sets-eq w l i h)
+
+-- what is written further on does not change a part
+pub read-before : (l : List ℕ) (at k i : ℕ) (vs : List ℕ) → at + k ≤ i → part at k (sets l i vs) ≡ part at k l
+read-before l at k i vs h = sym (part-front (sets l i vs) at k) ∙ ap (drop at) (take-sets (at + k) l i vs h) ∙ part-front l at k
+
+pub read-written : (l : List ℕ) (i k : ℕ) (vs : List ℕ) → length vs ≡ k → i + k ≤ length l → part i k (sets l i vs) ≡ vs
+read-written l i k vs e h =
+    let room : i + length vs ≤ length l = omega arith in
+    ap (part i k) (sets-eq vs l i room ∙ append-assoc (take i l) vs (drop (i + length vs) l))
+    ∙ ap (take k) (drop-at (take i l) (vs ++ drop (i + length vs) l) i (length-take-le i l (omega arith)))
+    ∙ take-at vs (drop (i + length vs) l) k e
 
 -- ---- a number, byte by byte
 

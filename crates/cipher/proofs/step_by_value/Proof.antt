@@ -1,4 +1,4 @@
--- `cipher::step_by_value` meets its contract: it is `forward` over a table of its own.
+-- `cipher::step_by_value` meets its contract: it is one step of a lane over a table of its own.
 use mathlib.Core.Path.{_∙_}
 use borrow.Author.Needs.{needs}
 use Rattle.cipher.proofs.step_by_value.Statement.{statement}

@@ -1,7 +1,5 @@
 -- `cipher::z_before` meets its contract.
-use mathlib.Core.Path.{ap, ap₂, _∙_}
-use mathlib.Core.List.{List}
-use Prim.Native.Nat.{ℕ}
+use mathlib.Core.Path.{ap₂, _∙_}
 use Rattle.words.specs.Xor.{xors}
 use Rattle.words.specs.Sums.{_⊞_}
 use Rattle.cipher.specs.Back.{back, z-before}

@@ -5,7 +5,7 @@ use native.Mathlib.Omega.{arith}
 use denote.Ref.{now}
 use lib.ListN.{length, length-set}
 use lib.Seq.{sets, slice}
-use Rattle.digest.proofs.Slices.{put-turn, put-end}
+use Rattle.words.proofs.Writing.{put-turn, put-end}
 use borrow.Author.Needs.{needs}
 use Rattle.digest.proofs.keep.Statement.{statement}
 use Rattle.digest.proofs.keep.Tie as tie

@@ -6,7 +6,7 @@ use Rattle.ghash.proofs.put.Statement.{statement}
 use Rattle.ghash.proofs.put.Tie as tie
 
 returns : tie.Need-returns
-returns c = entries-put (now (c .args .table)) (c .args .i) (c .args .e .hi) (c .args .e .lo)
+returns c = entries-put (now (c .args .table)) (c .args .i) (c .args .e .lo) (c .args .e .hi)
 
 pub put-spec : {M : Type 1} → statement M
 put-spec =

@@ -67,16 +67,16 @@ returns-3 c =
 
 -- ---- the session at each stage
 
-begun : (c : tie.After-begin) → let a = c .before .before .before .before .before .before .before .before .before .before .before .args in sessionOf (c .begin .result .session) ≡ session-at (now (a .key)) (now (a .iv)) (taking-data [])
-begun c = let o = c .before in begun-session (now (o .before .before .before .before .before .before .before .before .before .before .args .key)) (now (o .before .before .before .before .before .before .before .before .before .before .args .iv)) _ (key-long o) (iv-long o) (c .begin .ensures .session)
+begun : (c : tie.After-begin-with) → let a = c .before .before .before .before .before .before .before .before .before .before .before .before .before .args in sessionOf (c .begin-with .result .session) ≡ session-at (now (a .key)) (now (a .iv)) (taking-data [])
+begun c = let o = c .before .before .before in begun-session (now (o .before .before .before .before .before .before .before .before .before .before .args .key)) (now (o .before .before .before .before .before .before .before .before .before .before .args .iv)) _ (key-long o) (iv-long o) (c .begin-with .ensures .session)
 
-told : (c : tie.After-data-with) → let a = c .before .before .before .before .before .before .before .before .before .before .before .before .before .before .before .before .before .args in sessionOf (c .data-with .result) ≡ session-at (now (a .key)) (now (a .iv)) (taking-data (now (a .ad)))
-told c = let a = c .before .before .before .before .before .before .before .before .before .before .before .before .before .before .before .before .before .args in told-session (now (a .key)) (now (a .iv)) (now (a .ad)) _ _ (begun (c .before .before .before .before .before .before)) (c .data-with .ensures)
+told : (c : tie.After-data-with) → let a = c .before .before .before .before .before .before .before .before .before .before .before .before .before .before .before .before .before .before .before .args in sessionOf (c .data-with .result) ≡ session-at (now (a .key)) (now (a .iv)) (taking-data (now (a .ad)))
+told c = let a = c .before .before .before .before .before .before .before .before .before .before .before .before .before .before .before .before .before .before .before .args in told-session (now (a .key)) (now (a .iv)) (now (a .ad)) _ _ (begun (c .before .before .before .before .before .before)) (c .data-with .ensures)
 
-whole : (c : tie.After-text-with) → let a = c .before .before .before .before .before .before .before .before .before .before .before .before .before .before .before .before .before .before .before .before .args in sessionOf (c .text-with .result) ≡ session-at (now (a .key)) (now (a .iv)) (taking-text (now (a .ad)) (now (a .text)))
+whole : (c : tie.After-text-with) → let a = c .before .before .before .before .before .before .before .before .before .before .before .before .before .before .before .before .before .before .before .before .before .before .before .args in sessionOf (c .text-with .result) ≡ session-at (now (a .key)) (now (a .iv)) (taking-text (now (a .ad)) (now (a .text)))
 whole c =
-    let a = c .before .before .before .before .before .before .before .before .before .before .before .before .before .before .before .before .before .before .before .before .args in
-    whole-session (now (a .key)) (now (a .iv)) (now (a .ad)) _ (closed-session (now (a .key)) (now (a .iv)) (now (a .ad)) _ _ (told (c .before .before .before)) refl) (now (a .text)) (now (a .out)) (now (a .out)) _ (c .text-with .ensures .0)
+    let a = c .before .before .before .before .before .before .before .before .before .before .before .before .before .before .before .before .before .before .before .before .before .before .before .args in
+    whole-session (now (a .key)) (now (a .iv)) (now (a .ad)) _ (closed-session (now (a .key)) (now (a .iv)) (now (a .ad)) _ _ (told (c .before .before .before .before)) refl) (now (a .text)) (now (a .out)) (now (a .out)) _ (c .text-with .ensures .0)
 
 -- one table serves them
 data-with-requires : tie.Need-data-with-requires
@@ -84,36 +84,39 @@ unfolding session-at phase-at
 data-with-requires c κs =
     let b = c .before .before .before .before .before in
     let e = begun b in
-    let n : b .begin .result .session .ad ≡ 0 = ap (λ (s : Session). s .ad) e in (
+    let n : b .begin-with .result .session .ad ≡ 0 = ap (λ (s : Session). s .ad) e in (
       ap (λ (s : Session). s .phase) e,
-      omega (arith, ad-fits (b .before)),
+      omega (arith, ad-fits (b .before .before .before)),
       c .before .fill .ensures,
     )
 
 text-with-requires : tie.Need-text-with-requires
 unfolding session-at
 text-with-requires c κs =
-    let d = c .before .before in
+    let d = c .before .before .before in
     let b = d .before .before .before .before .before .before in
-    let a = b .before .before .before .before .before .before .before .before .before .before .before .args in
+    let a = b .before .before .before .before .before .before .before .before .before .before .before .before .before .args in
     let e = told d in
     let n : d .data-with .result .text ≡ 0 = ap (λ (s : Session). s .text) e in
-    let t = text-fits (b .before) in (
-      record { ordered = omega arith; read = omega arith; room = room (b .before); counts = omega arith },
-      lent (now (a .key)) (now (a .iv)) (taking-data []) (taking-data (now (a .ad))) (b .begin .result .session) (d .data-with .result) _ (begun b) e (d .before .before .fill .ensures),
+    let t = text-fits (b .before .before .before) in (
+      record { ordered = omega arith; read = omega arith; room = room (b .before .before .before); counts = omega arith },
+      record {
+        of-rounds = b .before .before .table .ensures;
+        of-h = lent (now (a .key)) (now (a .iv)) (taking-data []) (taking-data (now (a .ad))) (b .begin-with .result .session) (d .data-with .result) _ (begun b) e (d .before .before .fill .ensures);
+      },
     )
 
 tag-with-requires : tie.Need-tag-with-requires
 tag-with-requires c κs =
     let w = c .before .before .before in
-    let b = w .before .before .before .before .before .before .before .before .before in
-    let a = b .before .before .before .before .before .before .before .before .before .before .before .args in
-    lent (now (a .key)) (now (a .iv)) (taking-data []) (taking-text (now (a .ad)) (now (a .text))) (b .begin .result .session) (w .text-with .result) _ (begun b) (whole w) (w .before .before .before .before .before .fill .ensures)
+    let b = w .before .before .before .before .before .before .before .before .before .before in
+    let a = b .before .before .before .before .before .before .before .before .before .before .before .before .before .args in
+    lent (now (a .key)) (now (a .iv)) (taking-data []) (taking-text (now (a .ad)) (now (a .text))) (b .begin-with .result .session) (w .text-with .result) _ (begun b) (whole w) (w .before .before .before .before .before .before .fill .ensures)
 
 returns-4 : tie.Need-returns-4
 returns-4 c =
     let w = c .before .before .before .before .before in
-    let o = w .before .before .before .before .before .before .before .before .before .before in
+    let o = w .before .before .before .before .before .before .before .before .before .before .before .before .before in
     let a = o .before .before .before .before .before .before .before .before .before .before .args in
     let key = now (a .key) in
     let iv = now (a .iv) in
@@ -124,7 +127,7 @@ returns-4 c =
       (
         c .to-bytes .ensures ∙ c .before .tag-with .ensures ∙ ap tag-of (whole w) ∙ tag-at (now (a .key)) (now (a .iv)) (taking-text (now (a .ad)) (now (a .text)))
             ∙ sym (seal-gives key iv d (key-long o) (iv-long o) (ad-fits o) t out (text-fits o) (room o)),
-        whole-out (now (a .key)) (now (a .iv)) (now (a .ad)) _ (closed-session (now (a .key)) (now (a .iv)) (now (a .ad)) _ _ (told (w .before .before .before)) refl) (now (a .text)) (now (a .out)) _ (w .text-with .ensures .1)
+        whole-out (now (a .key)) (now (a .iv)) (now (a .ad)) _ (closed-session (now (a .key)) (now (a .iv)) (now (a .ad)) _ _ (told (w .before .before .before .before)) refl) (now (a .text)) (now (a .out)) _ (w .text-with .ensures .1)
             ∙ sym (seal-writes key iv d (key-long o) (iv-long o) (ad-fits o) t out (text-fits o) (room o)),
       ),
     )
@@ -142,6 +145,7 @@ seal-spec =
     (λ c κs. search needs)
     returns-3
     (λ c κs. search needs)
+    (λ c κs. c .before .table .ensures)
     (λ c κs. search needs)
     data-with-requires
     text-with-requires

@@ -8,7 +8,7 @@ use Rattle.session.proofs.no_session.Tie as tie
 returns : tie.Need-returns
 returns c =
     let z = c .before .before .zero .ensures in
-    let n = c .before .zero-element .ensures in
+    let n = c .before .zero2 .ensures in
     λ i. record {
       phase = 2;
       ad = 0;

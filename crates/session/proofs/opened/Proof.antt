@@ -1,9 +1,18 @@
 -- `session::opened` meets its contract: H and the end pad are the blocks of two steps.
 use mathlib.Core.Path.{_≡_, ap, _∙_}
-use Rattle.words.specs.Machine.{bytesOf}
+use mathlib.Core.List.{List, _++_}
+use Prim.Native.Nat.{ℕ}
+use native.Mathlib.Omega.{arith}
+use lib.ListN.{length, take, replicate}
+use lib.Seq.{take-at, drop-at, take-all}
+use Rattle.words.specs.Bytes.{part}
+use Rattle.words.proofs.Writing.{put-whole}
 use Rattle.cipher.specs.Step.{z}
-use Rattle.cipher.specs.Run.{forward, move, made, moves}
+use Rattle.cipher.specs.Run.{forward, move, made, moves, blocks}
 use Rattle.cipher.specs.Machine.{registersOf}
+use Rattle.cipher.proofs.Typed.{every-state}
+use Rattle.cipher.proofs.Inverse.{z-block}
+use Rattle.cipher.proofs.Moves.{move-good, blocks-one, blocks-more, blocks-length}
 use Rattle.digest.specs.Sum.{fresh}
 use borrow.Author.Needs.{needs}
 use Rattle.session.proofs.opened.Statement.{statement}
@@ -12,27 +21,37 @@ use Rattle.session.proofs.opened.Tie as tie
 returns : tie.Need-returns
 unfolding made moves
 returns c =
-    let w = c .before .before .before .before .before .before .before .before .before .forward .ensures in
-    let x = c .before .before .before .before .before .forward2 .ensures in
-    let s = registersOf (c .before .before .before .before .before .before .before .before .before .before .before .before .args .s) in
-    let pad : bytesOf (c .before .before .before .before .before .forward2 .result .z) ≡ z (move forward s) = x .z ∙ ap z (w .state) in
+    let s = c .before .before .before .before .before .before .before .before .before .before in
+    let S = registersOf (s .args .s) in
+    let g = every-state (s .args .s) _ (s .good .0) in
+    let w = c .before .before .before .before .before .before .before .before .batch in
+    let two : w .last .1 .1 .0 ≡ z S ++ z (move forward S) =
+    w .ensures .1 ∙ put-whole (replicate 32 0) (blocks forward 2 S) (blocks-length forward 2 S g)
+    ∙ blocks-more forward 1 S ∙ ap (λ (x : List ℕ). x ++ z (move forward S)) (blocks-one forward S) in
+    let first : length (z S) ≡ 16 = z-block S g .long in
+    let second : length (z (move forward S)) ≡ 16 = z-block (move forward S) (move-good forward S g) .long in
+    let h = c .before .before .before .load2 .ensures ∙ ap (part 0 16) two ∙ take-at (z S) (z (move forward S)) 16 first in
+    let pad = c .before .before .before .before .before .load .ensures ∙ ap (part 16 16) two ∙ ap (take 16) (drop-at (z S) (z (move forward S)) 16 first) ∙ take-all 16 (z (move forward S)) (omega arith) in
     λ i. record {
       phase = 0;
       ad = 0;
       text = 0;
-      registers = (x .state ∙ ap (move forward) (w .state)) i;
-      h = (c .before .before .from-block .ensures ∙ w .z) i;
+      registers = w .ensures .0 i;
+      h = (c .before .before .from-block .ensures ∙ h) i;
       pad = pad i;
       current = pad i;
-      sum = (c .fresh .ensures ∙ ap fresh (c .before .zero-element .ensures)) i;
+      sum = (c .fresh .ensures ∙ ap fresh (c .before .zero .ensures)) i;
     }
 
 pub opened-spec : {M : Type 1} → statement M
 opened-spec =
     tie.close
     (tie.spec
+    (λ c. search needs)
     (λ c κs. search needs)
+    (λ c. search needs)
     (λ c κs. search needs)
+    (λ c. search needs)
     (λ c κs. search needs)
     (λ c κs. search needs)
     (λ c κs. search needs)

@@ -10,26 +10,30 @@ use Rattle.session.proofs.take_text.Tie as tie
 
 short-text-requires : tie.Need-short-text-requires
 short-text-requires c κs =
-    let start = c .before .before .before .before .before .before in
-    let e = closed-count (sessionOf (start .args .s)) (sessionOf (c .before .close .result)) (c .before .close .ensures) in
-    (rw e (start .pre), rw e (omega arith))
+    let start = c .before .before .before .before .before .before .before .before in
+    let e = closed-count (sessionOf (start .args .s)) (sessionOf (c .before .before .close .result)) (c .before .before .close .ensures) in
+    (rw e (start .pre), rw e (omega arith), c .before .before .before .before .before .table .ensures)
 
 returns : tie.Need-returns
 returns c =
-    let a = c .before .before .before .before .before .before .before .before .before .args in
-    let close = c .before .before .before .before .close in
+    let a = c .before .before .before .before .before .before .before .before .before .before .before .args in
+    let close = c .before .before .before .before .before .close in
     closed-piece (sessionOf (a .s)) (sessionOf (close .result)) (close .ensures) _ (now (a .piece)) (now (a .out)) _ (c .before .before .short-text .ensures)
+
+text-with-requires : tie.Need-text-with-requires
+text-with-requires c κs = (c .before .before .before .before .before .before .before .before .before .before .before .pre, record { of-rounds = c .before .before .before .before .before .before .before .before .table .ensures; of-h = c .before .before .before .fill .ensures })
 
 pub take-text-spec : {M : Type 1} → statement M
 take-text-spec =
     tie.close
     (tie.spec
+    (λ c κs. search needs)
     (λ c. omega arith)
     (λ c κs. search needs)
     short-text-requires
     (λ c. search needs)
     returns
     (λ c κs. search needs)
-    (λ c κs. search needs)
+    text-with-requires
     (λ c. search needs)
     (λ c. search needs))

@@ -1,43 +1,15 @@
--- `start::into_a` meets its contract: the lower cells come back as they were, the upper with the block xored in.
-use Prim.Native.Nat.{ℕ}
-use mathlib.Core.Path.{_≡_, ap, ap₂, _∙_}
-use mathlib.Core.List.{List, _++_}
-use lib.Dec.{lit<, lit≤}
-use lib.ListN.{take, drop}
-use Rattle.words.specs.Xor.{xors}
-use Rattle.words.specs.Bytes.{Row, numbers}
+-- `start::into_a` meets its contract: register A is fed, the rest stays.
 use Rattle.words.specs.Machine.{bytesOf}
-use Rattle.words.proofs.Rows.{row-take, row-drop}
-use Rattle.words.proofs.Bytes.{numbers-littles}
-use Rattle.words.proofs.Blocks.{bytesOf-block}
-use Rattle.cipher.proofs.Typed.{every-state}
 use Rattle.start.specs.Start.{into-a}
-use Rattle.start.proofs.Splitting.{mixed-cells}
 use borrow.Author.Needs.{needs}
 use Rattle.start.proofs.into_a.Statement.{statement}
 use Rattle.start.proofs.into_a.Tie as tie
 
-cells-row : (c : tie.Start) → Row 16 65536 (c .args .s .lfsr .a)
-cells-row c = every-state (c .args .s) _ (c .good .0) .cells .in-a
-
 returns : tie.Need-returns
 unfolding into-a
 returns c =
-    let a = c .before .before .before .before .before .before .before .args in
-    let l = a .s .lfsr .a in
-    let r : Row 16 65536 l = cells-row (c .before .before .before .before .before .before .before) in
-    let low : numbers 2 8 (bytesOf (c .before .before .before .low-half .result)) ≡ take 8 l =
-    ap (numbers 2 8) (c .before .before .before .low-half .ensures) ∙ numbers-littles 2 8 (take 8 l) (row-take 65536 16 r 8 (lit< tt) (lit≤ tt)) in
-    let high : numbers 2 8 (bytesOf (c .before .xor .result)) ≡ xors (drop 8 l) (numbers 2 8 (bytesOf (a .x))) =
-    ap (numbers 2 8) (c .before .xor .ensures ∙ ap (λ (t : List ℕ). xors t (bytesOf (a .x))) (c .before .before .high-half .ensures))
-    ∙ mixed-cells (drop 8 l) (bytesOf (a .x)) (row-drop 65536 16 r 8) (bytesOf-block (a .x)) in
-    λ i. record {
-      lfsr = record { a = (c .cells .ensures ∙ ap₂ (λ (p q : List ℕ). p ++ q) low high) i; b = a .s .lfsr .b };
-      r1 = bytesOf (a .s .r1);
-      r2 = bytesOf (a .s .r2);
-      r3 = bytesOf (a .s .r3);
-    }
+    let a = c .before .before .args in
+    λ i. record { lfsr = c .fed .ensures i; r1 = bytesOf (a .s .r1); r2 = bytesOf (a .s .r2); r3 = bytesOf (a .s .r3) }
 
 pub into-a-spec : {M : Type 1} → statement M
-into-a-spec =
-    tie.close (tie.spec (λ c κs. search needs) (λ c κs. search needs) (λ c κs. search needs) (λ c κs. search needs) returns)
+into-a-spec = tie.close (tie.spec (λ c κs. search needs) returns)

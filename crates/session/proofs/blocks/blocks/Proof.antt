@@ -1,26 +1,31 @@
--- `session::blocks::blocks` meets its contract: after each turn the text that is left leads where the whole leads, from the session with the loop's lane.
-use Prim.Native.Nat.{ℕ, _+_, _-_, _%_, _≤_}
+-- `session::blocks::blocks` meets its contract: after each batch the text that is left leads where the whole leads, from the session with the loop's track.
+use Prim.Native.Nat.{ℕ, _+_, _-_, _*_, _%_, _<_, _≤_}
 use mathlib.Core.Path.{_≡_, sym, ap, subst, _∙_}
 use native.Mathlib.Nat.{le-trans}
 use native.Mathlib.Omega.{arith}
 use borrow.Author.Needs.{needs}
 use denote.Ref.{now}
 use lib.ListN.{length}
-use lib.Seq.{slice, length-slice}
+use lib.Seq.{sets, slice, length-slice}
+use Rattle.cipher.specs.Registers.{IsRegisters}
+use Rattle.cipher.specs.Run.{forward}
+use Rattle.cipher.specs.Machine.{registersOf}
+use Rattle.cipher.proofs.Typed.{every-state}
+use Rattle.cipher.proofs.Moves.{moves-good}
 use Rattle.session.specs.Machine.{sessionOf}
-use Rattle.session.specs.Inner.{trackOf}
-use Rattle.session.proofs.Going.{Going, none, more, all-session, all-output, whole-left}
-use Rattle.session.proofs.Made.{riding, turn-session, turn-out, turn-long}
+use Rattle.session.specs.Inner.{Track, trackOf}
+use Rattle.session.proofs.Going.{Going, none, more, all-session, all-output}
+use Rattle.session.proofs.Whole.{riding, drawn-blocks, whole-taken}
 use Rattle.session.proofs.blocks.blocks.Statement.{statement}
 use Rattle.session.proofs.blocks.blocks.Tie as tie
 
 abbrev Inv-loop : tie.InvT-loop
-Inv-loop s piece out₀ from to sbox table h l₀ i₀ out l i =
-    Going (sessionOf s) piece out₀ from to out (riding (sessionOf s) (trackOf l) (s .text + (i - from))) i
-    × (from ≤ i) × ((to - i) % 16 ≡ 0) × (length (l .held .pending) ≡ 16)
+Inv-loop s piece out₀ from to rounds table h t₀ i₀ out t i =
+    Going (sessionOf s) piece out₀ from to out (riding (sessionOf s) (trackOf t) (s .text + (i - from))) i
+    × (from ≤ i) × ((to - i) % 16 ≡ 0) × (length (t .held .pending) ≡ 16) × IsRegisters (registersOf (t .state))
 
 abbrev μ-loop : tie.MeasureT-loop
-μ-loop s piece out₀ from to sbox table h l₀ i₀ out l i = to - i
+μ-loop s piece out₀ from to rounds table h t₀ i₀ out t i = to - i
 
 held-long : (c : tie.Start Inv-loop μ-loop) → length (c .args .s .held .pending) ≡ 16
 held-long c = search needs
@@ -36,56 +41,66 @@ loop-holds c =
       omega arith,
       q .whole,
       held-long start,
+      every-state (a .s .state) _ (start .good .0 .1 .1 .1 .1 .1 .1 .1 .1 .1 .0),
     )
 
--- a whole block is left
-left : (c : tie.In-loop Inv-loop μ-loop) → let l = c .before .loop in let a = c .before .before .before .before .before .before .before .before .args in (l .i + 16 ≤ a .to) × ((a .to - (l .i + 16)) % 16 ≡ 0)
-left c = whole-left (c .before .loop .i) (c .before .before .before .before .before .before .before .before .args .to) (omega arith) (c .before .loop .inv .2)
+-- whole blocks are left: k of them stay within the part, and whole blocks are left behind them
+left : (c : tie.After-at-most Inv-loop μ-loop) → let l = c .before .before .loop in let to = c .before .before .before .before .before .before .before .before .before .args .to in let k = c .at-most .result in
+    (0 < k) × (l .i + 16 * k ≤ to) × ((to - (l .i + 16 * k)) % 16 ≡ 0)
+left c =
+    let l = c .before .before .loop in
+    let h = c .before .loop-test .taken in
+    let e = l .inv .2 in
+    let most = c .at-most .ensures .1 in
+    let some = c .at-most .ensures .2 (omega arith) in
+    (some, omega arith, omega arith)
 
 at-start : (t from i to : ℕ) → from ≤ i → i ≤ to → t % 16 ≡ 0 → (to - from) % 16 ≡ 0 → (to - i) % 16 ≡ 0 → (t + (i - from)) % 16 ≡ 0
 at-start t from i to h k e f g = omega arith
 
-block-requires : tie.Need-block-requires Inv-loop μ-loop
-block-requires c κs =
-    let l = c .before .before .loop in
-    let start = c .before .before .before .before .before .before .before .before .before in
-    let q = start .pre in
-    let k = left (c .before) .0 in
-    (le-trans k (q .0 .part .read), rw (l .inv .0 .size) (le-trans k (q .0 .part .room)), q .1)
+sealed-batch-requires : tie.Need-sealed-batch-requires Inv-loop μ-loop
+sealed-batch-requires c κs =
+    let l = c .before .before .before .loop in
+    let q = c .before .before .before .before .before .before .before .before .before .before .pre in
+    let k = left (c .before) in
+    (k .0, c .before .at-most .ensures .0, le-trans (k .1) (q .0 .part .read), rw (l .inv .0 .size) (le-trans (k .1) (q .0 .part .room)), q .1)
+
+mul-i : tie.Need-mul-i Inv-loop μ-loop
+mul-i c = record { fits = omega (arith, c .before .before .before .before .at-most .ensures .0) }
 
 add-i : tie.Need-add-i Inv-loop μ-loop
-add-i c =
-    let in-loop = c .before .before .before .before in
-    let k = left in-loop .0 in
-    record { fits = omega (arith, in-loop .before .before .before .before .before .before .before .before .fits .to) }
+add-i c = record { fits = omega (arith, left (c .before .before .before .before) .1, c .before .before .before .before .before .before .before .before .before .before .before .before .before .fits .to) }
 
 loop-less : tie.Need-loop-less Inv-loop μ-loop
-loop-less c = let k = left (c .before .before .before .before) .0 in omega arith
+loop-less c = let k = left (c .before .before .before .before) in omega (arith, k .0, k .1)
 
 loop-again : tie.Need-loop-again Inv-loop μ-loop
 loop-again c =
-    let in-loop = c .before .before .before .before in
-    let start = in-loop .before .before .before .before .before .before .before .before in
-    let l = in-loop .before .loop in
+    let next = c .before .before .before .before in
+    let l = next .before .before .loop in
+    let start = c .before .before .before .before .before .before .before .before .before .before .before .before .before in
     let a = start .args in
     let q = start .pre .0 in
     let g = l .inv .0 in
-    let k = left in-loop in
-    let b = c .before .before .block in
+    let left = left next in
+    let w = c .before .before .sealed-batch in
     let S = sessionOf (a .s) in
     let p = now (a .piece) in
+    let k = next .at-most .result in
     let n = a .s .text + (l .i - a .from) in
+    let u = riding S (trackOf (l .t)) n in
     let begins : n % 16 ≡ 0 = at-start (a .s .text) (a .from) (l .i) (a .to) (l .inv .1) (g .bound) (q .start) (q .whole) (l .inv .2) in
-    let read : l .i + 16 ≤ length p = le-trans (k .0) (q .part .read) in
-    let part = slice (l .i) (l .i + 16) p in
-    let long : length part ≡ 16 = length-slice (l .i) (l .i + 16) p read ∙ omega arith in
-    let e : n + 16 ≡ a .s .text + (l .i + 16 - a .from) = omega (arith, l .inv .1) in
-    let es = turn-session S (l .l) (b .result) n part (b .ensures .0) begins long (l .inv .3) in
-    let eo = turn-out S (l .l) (b .result) n part (b .ensures .0) begins long (l .out) _ (l .i) (b .ensures .1) in (
-      more g _ _ (l .i + 16) (omega arith) (k .0) (q .part .read) (ap (riding S (trackOf (b .result))) (sym e) ∙ es) eo,
+    let read : l .i + 16 * k ≤ length p = le-trans (left .1) (q .part .read) in
+    let part = slice (l .i) (l .i + 16 * k) p in
+    let long : length part ≡ 16 * k = length-slice (l .i) (l .i + 16 * k) p read ∙ omega arith in
+    let e : a .s .text + (l .i + 16 * k - a .from) ≡ n + 16 * k = omega (arith, l .inv .1) in (
+      more g _ _ (l .i + 16 * k) (omega arith) (left .1) (q .part .read)
+          (ap (riding S (trackOf (w .result))) e ∙ ap (λ (t : Track). riding S t (n + 16 * k)) (w .ensures .0) ∙ sym (whole-taken u (l .inv .4) begins k part long (left .0) (l .inv .3)))
+          (w .ensures .1 ∙ ap (sets (l .out) (l .i)) (sym (drawn-blocks u (l .inv .4) begins k part long .output))),
       omega (arith, l .inv .1),
-      k .1,
-      turn-long S (l .l) (b .result) n part (b .ensures .0) begins long,
+      left .2,
+      ap (λ (t : Track). length (t .sum .pending)) (w .ensures .0),
+      subst IsRegisters (ap (λ (t : Track). t .registers) (sym (w .ensures .0))) (moves-good forward k (registersOf (l .t .state)) (l .inv .4)),
     )
 
 sub-r : tie.Need-sub-r Inv-loop μ-loop
@@ -103,7 +118,7 @@ returns c =
     let l = at-loop .loop in
     let a = at-loop .before .before .before .before .before .before .before .args in
     let e : l .i ≡ a .to = omega (arith, l .inv .0 .bound, c .before .before .before .before .loop-test .left) in
-    (ap (λ (k : ℕ). riding (sessionOf (a .s)) (trackOf (l .l)) (a .s .text + (k - a .from))) (sym e) ∙ all-session (l .inv .0) e, all-output (l .inv .0) e)
+    (ap (λ (k : ℕ). riding (sessionOf (a .s)) (trackOf (l .t)) (a .s .text + (k - a .from))) (sym e) ∙ all-session (l .inv .0) e, all-output (l .inv .0) e)
 
 pub blocks-spec : {M : Type 1} → statement M
 blocks-spec =
@@ -112,7 +127,10 @@ blocks-spec =
     Inv-loop
     μ-loop
     loop-holds
-    block-requires
+    (λ c. search needs)
+    (λ c κs. search needs)
+    sealed-batch-requires
+    mul-i
     add-i
     loop-less
     loop-again

@@ -36,7 +36,7 @@ hold-requires : tie.Need-hold-requires
 hold-requires c κs =
     let q = c .before .before .before .before .pre in
     let e = some (c .before) .1 in
-    (q .0, omega arith, q .2 .box)
+    (q .0, omega arith, q .2 .of-rounds)
 
 slice-aggregate-load : tie.Need-slice-aggregate-load
 slice-aggregate-load c = sym (pending-long (c .before .before .before .before .before .before .before))

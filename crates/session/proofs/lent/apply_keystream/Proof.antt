@@ -1,89 +1,98 @@
--- `session::lent::apply_keystream` meets its contract: each whole block, and then the rest, is xored with the block drawn for it.
-use Prim.Native.Nat.{ℕ, _+_, _-_, _%_, _^_, _≤_, _<_}
-use mathlib.Core.Path.{_≡_, refl, sym, ap, ap₂, _∙_}
+-- `session::lent::apply_keystream` meets its contract: batch by batch whole blocks are drawn and xored, and then the rest is xored with a block of its own.
+use Prim.Native.Nat.{ℕ, _+_, _-_, _*_, _/_, _%_, _^_, _≤_, _<_}
+use mathlib.Core.Path.{_≡_, refl, ap, _∙_}
 use mathlib.Core.List.{List}
-use native.Mathlib.Nat.{le-refl}
 use native.Mathlib.Omega.{arith}
 use borrow.Author.Needs.{needs}
 use denote.Ref.{now}
 use lib.ListN.{length}
-use lib.Seq.{sets, slice}
+use lib.Seq.{sets, slice, length-sets}
 use Rattle.words.specs.Xor.{xors}
-use Rattle.words.proofs.Blocks.{bytesOf-block}
+use Rattle.cipher.specs.Registers.{IsRegisters}
 use Rattle.cipher.specs.Step.{z}
-use Rattle.cipher.specs.Run.{move, made}
+use Rattle.cipher.specs.Run.{forward, made, blocks}
 use Rattle.cipher.specs.Machine.{registersOf}
-use Rattle.digest.proofs.Slices.{slice-take}
+use Rattle.cipher.proofs.Typed.{every-state}
 use Rattle.session.specs.Session.{Session}
 use Rattle.session.specs.Machine.{sessionOf}
-use Rattle.session.proofs.Streaming.{Streaming, begun, stream-turn, stream-end, stream-done}
+use Rattle.session.proofs.Streaming.{Streaming, begun, stream-blocks, stream-end, stream-done, drawn-xored}
 use Rattle.session.proofs.lent.apply_keystream.Statement.{statement}
 use Rattle.session.proofs.lent.apply_keystream.Tie as tie
 
 abbrev Inv-loop : tie.InvT-loop
-Inv-loop input out₀ sbox n state₀ i₀ out state i =
-    (s : Session) → registersOf state₀ ≡ s .registers → s .text % 16 ≡ 0 → Streaming s input out₀ out (registersOf state) i
+Inv-loop input out₀ rounds n to state₀ i₀ out state i =
+    ((s : Session) → registersOf state₀ ≡ s .registers → IsRegisters (registersOf state₀) → s .text % 16 ≡ 0 → Streaming s input out₀ out (registersOf state) i)
+    × (i ≤ to) × (i % 16 ≡ 0)
 
 abbrev μ-loop : tie.MeasureT-loop
-μ-loop input out₀ sbox n state₀ i₀ out state i = length input - i
+μ-loop input out₀ rounds n to state₀ i₀ out state i = to - i
 
 loop-holds : tie.Need-loop-holds Inv-loop μ-loop
-loop-holds c = λ s e h. begun s _ _ _ e h
+loop-holds c = ((λ s e g h. begun s _ _ _ e g h), omega arith, refl)
 
 -- the session that is given is one of them
-given : (c : tie.At-loop Inv-loop μ-loop) → let a = c .before .before .before .before .before .args in Streaming (sessionOf (a .s)) (now (a .input)) (now (a .out)) (c .loop .out) (registersOf (c .loop .state)) (c .loop .i)
-given c = let start = c .before .before .before .before .before in c .loop .inv (sessionOf (start .args .s)) refl (start .pre .0)
-
-sub-loop : tie.Need-sub-loop Inv-loop μ-loop
-sub-loop c = given c .going .bound
-
--- a whole block is left
-left : (c : tie.In-loop Inv-loop μ-loop) → c .before .loop .i + 16 ≤ length (now (c .before .before .before .before .before .before .args .input))
-left c = omega (arith, given (c .before) .going .bound)
+given : (c : tie.At-loop Inv-loop μ-loop) → let a = c .before .before .before .before .args in Streaming (sessionOf (a .s)) (now (a .input)) (now (a .out)) (c .loop .out) (registersOf (c .loop .state)) (c .loop .i)
+given c =
+    let start = c .before .before .before .before in
+    c .loop .inv .0 (sessionOf (start .args .s)) refl (every-state (start .args .s .state) _ (start .good .0 .1 .1 .1 .1 .1 .1 .1 .1 .1 .0)) (start .pre .0)
 
 short : (c : tie.After-slice-known Inv-loop μ-loop) → length (now (c .before .before .args .input)) < 2 ^ 64
 short c = omega arith
 
-load-requires : tie.Need-load-requires Inv-loop μ-loop
-load-requires c κs = left (c .before .before .before .before .before)
+-- k blocks stay within the input
+left : (c : tie.After-at-most Inv-loop μ-loop) → let l = c .before .before .loop in let n = length (now (c .before .before .before .before .before .before .args .input)) in let k = c .at-most .result in
+    (0 < k) × (l .i + 16 * k ≤ n / 16 * 16)
+left c =
+    let l = c .before .before .loop in
+    let h = c .before .loop-test .taken in
+    let e = l .inv .2 in
+    let most = c .at-most .ensures .1 in
+    let some = c .at-most .ensures .2 (omega arith) in
+    (some, omega arith)
 
-store-requires : tie.Need-store-requires Inv-loop μ-loop
-store-requires c κs =
-    let in-loop = c .before .before .before .before .before .before .before in
-    let k = left in-loop in
-    omega (arith, given (in-loop .before) .going .size, in-loop .before .before .before .before .before .before .pre .1)
+room : (c : tie.After-at-most Inv-loop μ-loop) → c .before .before .loop .i + 16 * c .at-most .result ≤ length (c .before .before .loop .out)
+room c =
+    let g = given (c .before .before) .going .size in
+    let k = left c .1 in
+    let h = c .before .before .before .before .before .before .pre .1 in
+    omega arith
 
-add-i : tie.Need-add-i Inv-loop μ-loop
-add-i c =
-    let in-loop = c .before .before .before .before .before .before .before .before .before .before in
-    let k = left in-loop in
-    record { fits = omega (arith, short (in-loop .before .before .before .before)) }
+batch-requires : tie.Need-batch-requires Inv-loop μ-loop
+batch-requires c κs = (c .before .at-most .ensures .0, room (c .before), c .before .before .before .before .before .before .before .pre .2)
 
-loop-less : tie.Need-loop-less Inv-loop μ-loop
-loop-less c = let k = left (c .before .before .before .before .before .before .before .before .before .before) in omega arith
+xor-in-requires : tie.Need-xor-in-requires Inv-loop μ-loop
+xor-in-requires c κs =
+    let next = c .before .before .before .before .before in
+    let l = next .before .before .loop in
+    let r = registersOf (l .state) in
+    let n : length (c .before .before .before .batch .last .1 .1 .0) ≡ length (l .out) =
+    ap length (c .before .before .before .batch .ensures .1) ∙ length-sets (l .out) (l .i) (blocks forward (next .at-most .result) r) in
+    let h = left next in
+    (omega (arith, h .0, h .1), omega (arith, n, room next, h .0))
 
 loop-again : tie.Need-loop-again Inv-loop μ-loop
-unfolding move made
 loop-again c =
-    let x = c .before .before .before in
-    let f = x .before .before .before .before .before in
-    let in-loop = f .before .before in
-    let l = in-loop .before .loop in
-    let p = now (in-loop .before .before .before .before .before .before .args .input) in
-    let long : length (z (registersOf (l .state))) ≡ 16 = ap length (sym (f .forward .ensures .z)) ∙ bytesOf-block (f .forward .result .z) .long in
-    let eo = c .before .before .store .ensures
-    ∙ ap (sets (l .out) (l .i)) (x .xor .ensures ∙ ap₂ xors (x .before .load .ensures ∙ sym (slice-take (l .i) 16 p)) (f .forward .ensures .z)) in
-    λ s e h. stream-turn (l .inv s e h) _ long (left in-loop) eo _ (f .forward .ensures .state)
+    let next = c .before .before .before .before .before .before .before .before in
+    let l = next .before .before .loop in
+    let start = c .before .before .before .before .before .before .before .before .before .before .before .before .before .before in
+    let p = now (start .args .input) in
+    let k = next .at-most .result in
+    let w = c .before .before .before .before .before .before .batch .ensures in
+    let g = given (next .before .before) in
+    let h = left next in
+    let read : l .i + 16 * k ≤ length p = omega (arith, h .1) in
+    let eo = drawn-xored p (l .out) (registersOf (l .state)) (l .i) k (g .good) read (room next) (w .1) (c .before .before .xor-in .ensures) in
+    ((λ s e q z. stream-blocks (l .inv .0 s e q z) _ k read eo _ (w .0)), h .1, omega (arith, l .inv .2))
 
 under-requires : tie.Need-under-requires Inv-loop μ-loop
 under-requires c κs =
-    let done = c .before .before .before .before .before .before in
-    let start = done .before .before .before .before .before .before in
+    let done = c .before .before .before .before .before in
+    let start = done .before .before .before .before .before in
     let g = given (done .before) .going in
     (record { ordered = omega arith; read = omega arith; room = omega (arith, g .size, start .pre .1); counts = omega arith }, omega arith)
 
 same-length : tie.Need-same-length Inv-loop μ-loop
-same-length c = let e = given (c .before .before .before .before .before .before .before .before .before .before) .going .size in search needs
+same-length c = let e = given (c .before .before .before .before .before .before .before .before .before) .going .size in search needs
 
 same-length-2 : tie.Need-same-length-2 Inv-loop μ-loop
 same-length-2 c = let e = given (c .before .before) .going .size in search needs
@@ -92,21 +101,20 @@ returns : tie.Need-returns Inv-loop μ-loop
 unfolding made
 returns c =
     let u = c .before .before in
-    let f = u .before .before .before .before in
-    let done = f .before .before .before in
-    let start = done .before .before .before .before .before .before in
+    let w = u .before .before .before .before in
+    let done = w .before .before in
+    let start = done .before .before .before .before .before in
     let l = done .before .loop in
     let p = now (start .args .input) in
     let g = given (done .before) in
-    let long : length (z (registersOf (l .state))) ≡ 16 = ap length (sym (f .forward2 .ensures .z)) ∙ bytesOf-block (f .forward2 .result .z) .long in
-    let key : u .before .before .to-bytes .result ≡ z (registersOf (l .state)) = u .before .before .to-bytes .ensures ∙ f .forward2 .ensures .z in
+    let key : u .before .before .to-bytes .result ≡ z (registersOf (l .state)) = u .before .before .to-bytes .ensures ∙ w .forward .ensures .z in
     let eo : u .under .last .1 .1 .1 .1 .0 ≡ sets (l .out) (l .i) (xors (slice (l .i) (length p) p) (z (registersOf (l .state)))) =
     u .under .ensures .1 ∙ ap (λ (k : List ℕ). sets (l .out) (l .i) (xors (slice (l .i) (length p) p) k)) key in
-    stream-end g _ long (length p) (f .before .before .if1 .taken) (omega arith) (le-refl (length p)) eo refl (start .pre .1)
+    stream-end g _ (length p) (w .before .if1 .taken) (omega (arith, done .loop-test .left)) refl eo (start .pre .1)
 
 returns-2 : tie.Need-returns-2 Inv-loop μ-loop
 returns-2 c =
-    let start = c .before .before .before .before .before .before .before in
+    let start = c .before .before .before .before .before .before in
     let g = given (c .before .before) in
     let e : c .before .before .loop .i ≡ length (now (start .args .input)) = omega (arith, g .going .bound) in
     stream-done g e (start .pre .1)
@@ -117,15 +125,15 @@ apply-keystream-spec =
     (tie.spec
     Inv-loop
     μ-loop
-    (λ c κs. search needs)
+    (λ c. search needs)
     loop-holds
-    sub-loop
+    (λ c. search needs)
     (λ c κs. search needs)
-    load-requires
-    (λ c κs. search needs)
-    store-requires
-    add-i
-    loop-less
+    batch-requires
+    xor-in-requires
+    (λ c. omega (arith, c .before .before .before .before .before .before .before .before .at-most .ensures .0))
+    (λ c. omega (arith, left (c .before .before .before .before .before .before .before .before) .1, short (c .before .before .before .before .before .before .before .before .before .before .before .before)))
+    (λ c. let k = left (c .before .before .before .before .before .before .before .before) in omega (arith, k .0, k .1))
     loop-again
     (λ c κs. search needs)
     (λ c κs. search needs)

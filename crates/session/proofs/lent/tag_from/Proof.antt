@@ -16,7 +16,7 @@ returns c =
     let a = v .before .before .before .before .args in
     c .xor .ensures
     ∙ ap (λ (x : List ℕ). xors x (bytesOf (a .s .pad)))
-    (c .before .to-block .ensures ∙ v .absorb .ensures ∙ ap (eat (bytesOfElement (a .s .h)) (bytesOfElement (a .y))) (v .before .bits .ensures))
+    (c .before .to-block .ensures ∙ v .absorb-element .ensures ∙ ap (eat (bytesOfElement (a .s .h)) (bytesOfElement (a .y))) (v .before .lengths .ensures))
 
 pub tag-from-spec : {M : Type 1} → statement M
 tag-from-spec =

@@ -17,7 +17,7 @@ short-text-requires : tie.Need-short-text-requires
 short-text-requires c κs =
     let closed = c .before .before .before in
     let e = same-text closed in
-    (rw e (closed .before .before .before .pre .0), rw e (omega arith))
+    (rw e (closed .before .before .before .pre .0), rw e (omega arith), closed .before .before .before .pre .1 .of-rounds)
 
 returns : tie.Need-returns
 returns c =

@@ -7,10 +7,10 @@ use Rattle.vectors.proofs.vector.initialisation.Statement.{statement}
 use Rattle.vectors.proofs.vector.initialisation.Tie as tie
 
 abbrev Inv-loop : tie.InvT-loop
-Inv-loop sbox low out₀ s₀ i₀ out s i = (i ≤ 16) × (256 ≡ length out)
+Inv-loop table low out₀ s₀ i₀ out s i = (i ≤ 16) × (256 ≡ length out)
 
 abbrev μ-loop : tie.MeasureT-loop
-μ-loop sbox low out₀ s₀ i₀ out s i = 16 - i
+μ-loop table low out₀ s₀ i₀ out s i = 16 - i
 
 pub initialisation-spec : {M : Type 1} → statement M
 initialisation-spec =
