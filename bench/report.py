@@ -17,7 +17,7 @@ OURS, SAME, PORTABLE = "tulvekas", "same in C", "portable C"
 AES, AES_MASKED = "AES-256-GCM", "AES-256-GCM masked"
 MIB = 1048576
 
-# The library and the C go back by one algorithm: from run to run trace takes 0.95 to 1.08 of C's time, and resuming 0.94 to 1.05.
+# The library and the C go back by one algorithm: from run to run trace takes 0.95 to 1.08 of C's time, and resuming 0.94 to 1.06.
 BACK = 1.1
 
 
