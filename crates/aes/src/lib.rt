@@ -25,7 +25,7 @@ fn sbox() -> [u8; 256]
     SBOX
 }
 
-// The inverse S-box, made from the S-box: each byte is put at the place that its entry names. A caller makes it once, and lends it to the rounds.
+// The inverse S-box, made from the S-box: each byte is put at the place that its entry names. A caller makes it once, and lends it to the rounds back.
 pub fn inverse_sbox() -> [u8; 256]
     ensures { λ r. ⌜ Holds unsub r ⌝ }
 {
@@ -41,7 +41,7 @@ pub fn inverse_sbox() -> [u8; 256]
 fn entry(t: &[u8; 256], x: u32) -> u32
     ensures { λ r. ⌜ (r ≡ getD (now (t .entry)) (x % 256) 0) × (r < 256) ⌝ }
 {
-    words::wide(t[(x % 256) as usize])
+    words::word_of(t[(x % 256) as usize])
 }
 
 // A column through a table: its byte r is the entry at byte r of the r-th word.

@@ -19,7 +19,7 @@ use Rattle.lfsr.proofs.Back.{good-clocks}
 use Rattle.cipher.specs.Registers.{Registers, IsRegisters}
 use Rattle.cipher.specs.Step.{sigma, T1, T2, z, step}
 use Rattle.cipher.specs.Run.{forward, move, made, moves}
-use Rattle.cipher.specs.Inner.{clocked, Tapped}
+use Rattle.cipher.specs.Inner.{clocked, Tapped, in-lanes}
 use Rattle.cipher.proofs.Inverse.{step-good}
 use Rattle.cipher.proofs.Moves.{moves-good}
 use Rattle.words.proofs.Writing.{read-before, read-written}
@@ -31,6 +31,10 @@ pub record Standing (s : Registers) (at : ℕ) (l1 l2 r3 : List ℕ) : Type 0 wh
   pub in-r1 : part at 16 l1 ≡ s .r1
   pub in-r2 : part at 16 l2 ≡ s .r2
   pub in-r3 : r3 ≡ s .r3
+
+-- they are those that can be read there
+pub standing-read : {s : Registers} {at : ℕ} {l1 l2 r3 : List ℕ} (l : Lfsr) → Standing s at l1 l2 r3 → l ≡ s .lfsr → in-lanes l l1 l2 at r3 ≡ s
+standing-read l st e = λ i. record { lfsr = e i; r1 = st .in-r1 i; r2 = st .in-r2 i; r3 = st .in-r3 i }
 
 -- what is stored at the front
 pub standing-first : (s : Registers) → IsRegisters s → (l1 l2 m1 m2 : List ℕ) → length l1 ≡ 272 → length l2 ≡ 272
@@ -54,6 +58,12 @@ pub record Turned (at : ℕ) (l1 l2 r3 t1 t2 : List ℕ) (m1 m2 n3 block : List 
   pub writes1 : m1 ≡ sets l1 (at + 16) n1
   pub writes2 : m2 ≡ sets l2 (at + 16) n2
   pub gives : block ≡ xors (part at 16 m1 ⊞ t1) (part at 16 m2)
+
+-- the same, by what the taps are
+pub turned-by : {at : ℕ} {l1 l2 r3 t1 t2 m1 m2 n3 block : List ℕ} {u1 u2 : List ℕ} → t1 ≡ u1 → t2 ≡ u2
+    → Turned at l1 l2 r3 t1 t2 m1 m2 n3 block → Turned at l1 l2 r3 u1 u2 m1 m2 n3 block
+turned-by {at} {l1} {l2} {r3} {t1} {t2} {m1} {m2} {n3} {block} {u1} {u2} e1 e2 t =
+    subst (λ (x : List ℕ). Turned at l1 l2 r3 x u2 m1 m2 n3 block) e1 (subst (λ (x : List ℕ). Turned at l1 l2 r3 t1 x m1 m2 n3 block) e2 t)
 
 module _ (s : Registers) (g : IsRegisters s) (at : ℕ) {l1 l2 r3 m1 m2 n3 block : List ℕ} (st : Standing s at l1 l2 r3) (room : at + 32 ≤ 272)
     (t : Turned at l1 l2 r3 (T1 s) (T2 s) m1 m2 n3 block) where
@@ -151,17 +161,7 @@ module _ (s : Registers) (g : IsRegisters s) (n : ℕ) {t1 t2 : List ℕ} (p : T
     {l1 l2 r3 m1 m2 n3 block : List ℕ} (st : Standing (moves forward i s) (16 * i) l1 l2 r3)
     (t : Turned (16 * i) l1 l2 r3 (littles 2 (part (8 * i) 8 t1)) (littles 2 (part (8 * i) 8 t2)) m1 m2 n3 block) where
   its-turn : Turned (16 * i) l1 l2 r3 (T1 (moves forward i s)) (T2 (moves forward i s)) m1 m2 n3 block
-  its-turn =
-      record {
-        n1 = t .n1;
-        n2 = t .n2;
-        makes1 = t .makes1 ∙ ap (λ (x : List ℕ). sigma (part (16 * i) 16 l2 ⊞ xors r3 x)) (tapped-2 s n t1 t2 p i h);
-        makes2 = t .makes2;
-        makes3 = t .makes3;
-        writes1 = t .writes1;
-        writes2 = t .writes2;
-        gives = t .gives ∙ ap (λ (x : List ℕ). xors (part (16 * i) 16 m1 ⊞ x) (part (16 * i) 16 m2)) (tapped-1 s n t1 t2 p i h);
-      }
+  its-turn = turned-by (tapped-1 s n t1 t2 p i h) (tapped-2 s n t1 t2 p i h) t
 
   pub batch-z : block ≡ made forward (moves forward i s)
   unfolding made
@@ -173,14 +173,3 @@ module _ (s : Registers) (g : IsRegisters s) (n : ℕ) {t1 t2 : List ℕ} (p : T
       let e : 16 * i + 16 ≡ 16 * (i + 1) = omega arith in
       rw (next-moves i s) (subst (λ (k : ℕ). Standing (step (moves forward i s)) k m1 m2 n3) e
       (turn-stands (moves forward i s) (moves-good forward i s g) (16 * i) st (omega arith) its-turn))
-
--- the registers at the end of a batch
-pub batch-ends : (s t : Registers) (n : ℕ) {l1 l2 r3 : List ℕ} → Standing (moves forward n s) (16 * n) l1 l2 r3
-    → t .lfsr ≡ clocked n (s .lfsr) → t .r1 ≡ part (16 * n) 16 l1 → t .r2 ≡ part (16 * n) 16 l2 → t .r3 ≡ r3 → t ≡ moves forward n s
-batch-ends s t n st e e1 e2 e3 =
-    λ i. record {
-      lfsr = (e ∙ sym (moves-lfsr n s)) i;
-      r1 = (e1 ∙ st .in-r1) i;
-      r2 = (e2 ∙ st .in-r2) i;
-      r3 = (e3 ∙ st .in-r3) i;
-    }

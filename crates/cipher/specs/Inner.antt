@@ -1,5 +1,5 @@
--- What only inner functions' contracts use: A and B alone, some steps on, and the taps that they leave in lanes of cells, eight a step; and what a step back
--- goes by.
+-- What only inner functions' contracts use: A and B alone, some steps on, and the taps that they leave in lanes of cells, eight a step; R1 and R2 in lanes of
+-- bytes; and what a step back goes by.
 use Prim.Native.Nat.{ℕ, zero, suc, _*_, _<_}
 use mathlib.Core.Path.{_≡_}
 use mathlib.Core.List.{List}
@@ -9,6 +9,7 @@ use Rattle.words.specs.Machine.{bytesOf}
 use Rattle.lfsr.specs.Clock.{Lfsr, snowV, clocks}
 use Rattle.cipher.specs.declared.State.{State}
 use Rattle.cipher.specs.declared.Before.{Before}
+use Rattle.cipher.specs.Registers.{Registers}
 use Rattle.cipher.specs.Back.{back, z-before}
 use Rattle.cipher.specs.Machine.{registersOf}
 
@@ -23,6 +24,10 @@ pub record Tapped (l : Lfsr) (n : ℕ) (t1 t2 : List ℕ) : Type 0 where
   pub long2 : length t2 ≡ 128
   pub first : (i : ℕ) → i < n → part (8 * i) 8 t1 ≡ drop 8 (clocked i l .b)
   pub second : (i : ℕ) → i < n → part (8 * i) 8 t2 ≡ take 8 (clocked i l .a)
+
+-- the registers whose R1 and R2 stand at a place of their lanes
+abbrev pub in-lanes : (l : Lfsr) (l1 l2 : List ℕ) (at : ℕ) (r3 : List ℕ) → Registers
+in-lanes l l1 l2 at r3 = record { lfsr = l; r1 = part at 16 l1; r2 = part at 16 l2; r3 = r3 }
 
 -- what of the step that led to s does not hang on register A: R1 and R2 before it, and its z
 pub record Precedes (s : State) (p : Before) : Type 0 where

@@ -17,7 +17,7 @@ ghost use Rattle.wide_round.specs.Wide.{wide};
 ghost use Rattle.cipher.specs.Step;
 ghost use Rattle.cipher.specs.Run.{forward, moves, blocks};
 ghost use Rattle.cipher.specs.Machine.{registersOf, Moves};
-ghost use Rattle.cipher.specs.Inner.{clocked, Tapped};
+ghost use Rattle.cipher.specs.Inner.{clocked, Tapped, in-lanes};
 use crate::Moved;
 use crate::State;
 use lfsr::Lfsr;
@@ -97,6 +97,21 @@ pub fn output(l1: &[u8], l2: &[u8], at: usize, t1: Block) -> Block
     words::xor(words::plus(words::load(l1, at), t1), words::load(l2, at))
 }
 
+// A state moved on to registers of which R1 and R2 stand at a place of their lanes.
+pub fn moved_to(s: State, l: Lfsr, l1: &[u8], l2: &[u8], at: usize, r3: Block) -> State
+    requires { ⌜ (at + 16 ≤ length (now l1)) × (at + 16 ≤ length (now l2)) ⌝ }
+    ensures { λ r. ⌜ registersOf r ≡ in-lanes (lfsrOf l) (now (l1 .entry)) (now (l2 .entry)) at (bytesOf r3) ⌝ }
+{
+    let r1 = words::load(l1, at);
+    let r2 = words::load(l2, at);
+    let mut r = s;
+    r.lfsr = l;
+    r.r1 = r1;
+    r.r2 = r2;
+    r.r3 = r3;
+    r
+}
+
 // At most 16 steps, their blocks written from a place on. z is made last in a step: its reads of what the step before wrote as words would wait for
 // them if they came first.
 pub fn batch(s: State, rounds: &[u32; 256], out: &mut [u8], from: usize, n: usize) -> State
@@ -128,14 +143,7 @@ pub fn batch(s: State, rounds: &[u32; 256], out: &mut [u8], from: usize, n: usiz
         words::store(out, from + at, output(&l1, &l2, at, tap(&t1, i)));
         i += 1;
     }
-    let q1 = words::load(&l1, 16 * n);
-    let q2 = words::load(&l2, 16 * n);
-    let mut r = s;
-    r.lfsr = l;
-    r.r1 = q1;
-    r.r2 = q2;
-    r.r3 = r3;
-    r
+    moved_to(s, l, &l1, &l2, 16 * n, r3)
 }
 
 // One step, with its z.
@@ -149,4 +157,21 @@ pub fn forward(s: State, rounds: &[u32; 256]) -> Moved
         state: n,
         z: words::load(&b, 0),
     }
+}
+
+// n steps, from the front of the output on.
+pub fn run_forward(s: State, rounds: &[u32; 256], out: &mut [u8], n: usize) -> State
+    requires { ⌜ (16 * n ≤ length (now out)) × Holds wide (now rounds) ⌝ }
+    ensures state { λ r. ⌜ registersOf r ≡ moves forward n (registersOf s) ⌝ }
+    ensures out { λ _. ⌜ now (out .exit) ≡ sets (now (out .entry)) 0 (blocks forward n (registersOf s)) ⌝ }
+{
+    let mut t = s;
+    let mut i: usize = 0;
+    while i < n {
+        let k = at_most(n - i);
+        let u = batch(t, rounds, out, 16 * i, k);
+        t = u;
+        i += k;
+    }
+    t
 }

@@ -190,25 +190,7 @@ pub fn step(s: &mut State) -> [u8; 16]
     t.z
 }
 
-// n steps forward, from the front of the output on.
-fn run_forward(s: State, out: &mut [u8], n: usize) -> State
-    requires { ⌜ 16 * n ≤ length (now out) ⌝ }
-    ensures state { λ r. ⌜ registersOf r ≡ moves forward n (registersOf s) ⌝ }
-    ensures out { λ _. ⌜ now (out .exit) ≡ sets (now (out .entry)) 0 (blocks forward n (registersOf s)) ⌝ }
-{
-    let rounds = wide_round::table();
-    let mut t = s;
-    let mut i: usize = 0;
-    while i < n {
-        let k = lanes::at_most(n - i);
-        let u = lanes::batch(t, &rounds, out, 16 * i, k);
-        t = u;
-        i += k;
-    }
-    t
-}
-
-// And back.
+// n steps back, from the front of the output on.
 fn run_back(s: State, out: &mut [u8], n: usize) -> State
     requires { ⌜ 16 * n ≤ length (now out) ⌝ }
     ensures state { λ r. ⌜ registersOf r ≡ moves backward n (registersOf s) ⌝ }
@@ -237,7 +219,8 @@ fn steps(s: State, out: &mut [u8], n: usize, back: bool) -> State
     if back {
         return run_back(s, out, n);
     }
-    run_forward(s, out, n)
+    let rounds = wide_round::table();
+    lanes::run_forward(s, &rounds, out, n)
 }
 
 // The state after a run, and how many bytes of the output it wrote.

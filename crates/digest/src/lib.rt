@@ -55,12 +55,11 @@ fn blocks(
     requires { ⌜ (from ≤ to) × (to ≤ length (now piece)) × ((to - from) % 16 ≡ 0) × Table (bytesOfElement h) (now table) ⌝ }
     ensures { λ r. ⌜ bytesOfElement r ≡ hashFrom (bytesOfElement h) (bytesOfElement y) (slice from to (now (piece .entry))) ⌝ }
 {
-    let mut m = [0u8; 512];
     let mut z = y;
     let mut i = from;
     while i < to {
         let x = ghash::from_block(words::load(piece, i));
-        z = ghash::absorb_at(z, x, h, table, &mut m, i / 16 % 16 * 32);
+        z = ghash::absorb_element(z, x, h, table);
         i += 16;
     }
     z

@@ -29,7 +29,7 @@ pub fn get(s: &[u8], at: usize, k: usize) -> u64
     let mut i = k;
     while 0 < i {
         i -= 1;
-        n = n * 256 + words::wide(s[at + i]) as u64;
+        n = n * 256 + words::word_of(s[at + i]) as u64;
     }
     n
 }

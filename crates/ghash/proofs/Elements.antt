@@ -15,7 +15,7 @@ use Rattle.words.specs.Xor.{_⊕_, xors}
 use Rattle.words.specs.Bytes.{little, number, littles, IsBlock, zeros}
 use Rattle.words.proofs.XorLaws.{⊕-zero-r}
 use Rattle.words.proofs.Rows.{row-append, xors-append}
-use Rattle.words.proofs.Bytes.{little-row, little-long, little-xor, little-join, number-little}
+use Rattle.words.proofs.Bytes.{little-row, little-long, little-xor, little-pair, number-little}
 use Rattle.ghash.specs.Field.{R, timesX}
 use Rattle.ghash.specs.Hash.{big, bigs, lengths}
 use Rattle.ghash.specs.Machine.{bytesOfElement}
@@ -70,11 +70,8 @@ big-sum r a b e = ap big e ∙ big-xors 16 (bytesOfElement a) (bytesOfElement b)
 
 -- ---- a block's four words
 
-pub joined : (a b : ℕ) → a < 2 ^ 32 → b < 2 ^ 32 → little 8 (a + b * 0x100000000) ≡ little 4 a ++ little 4 b
-joined a b ha hb = ap (λ (n : ℕ). little 8 (a + n)) (mul-comm b 0x100000000) ∙ little-join 4 a b ha hb
-
 pub apart : (x : ℕ) → x < 2 ^ 64 → little 8 x ≡ little 4 (x % 2 ^ 32) ++ little 4 (x / 2 ^ 32)
-apart x h = ap (little 8) (sym (split x 32) ∙ add-comm _ _) ∙ joined (x % 2 ^ 32) (x / 2 ^ 32) (mod-lt x (lit< tt)) (shr-lt 32 32 h)
+apart x h = ap (little 8) (sym (split x 32) ∙ add-comm _ _) ∙ little-pair (x % 2 ^ 32) (x / 2 ^ 32) (mod-lt x (lit< tt)) (shr-lt 32 32 h)
 
 pub four-words : (a b c d : ℕ) → littles 4 (a ∷ b ∷ c ∷ d ∷ []) ≡ (little 4 a ++ little 4 b) ++ (little 4 c ++ little 4 d)
 unfolding little littles

@@ -8,18 +8,21 @@ use native.Mathlib.Nat.{mod-lt, mul-one, zero-mul, mul-assoc, pow-succ'}
 use lib.Bits.{bitAnd, and-block, and-mask}
 use lib.Dec.{lit<}
 use lib.ListN.{length, getD, take, drop, length-append, length-map, length-take, List·getD-append, List·getD-map}
-use lib.Pow.{split}
-use lib.Seq.{sets, sets-eq, getD-take, getD-drop, getD-append-add, take-add, take-all, take-at, drop-at}
-use Rattle.words.specs.Xor.{_⊕_}
+use lib.Pow.{split, pow-add}
+use lib.Seq.{sets, sets-eq, length-sets, getD-take, getD-drop, getD-append-add, take-add, take-all, take-at, drop-at, drop-drop}
+use Rattle.words.specs.Xor.{_⊕_, xors}
 use Rattle.words.specs.Bytes.{little, part, IsBlock}
 use Rattle.words.proofs.XorLaws.{⊕-shl, ⊕-shifted}
 use Rattle.words.proofs.Rows.{window}
+use Rattle.words.proofs.Parts.{part-at, part-more, part-row}
+use Rattle.words.proofs.Writing.{read-written}
 use Rattle.ghash.specs.Field.{product}
 use Rattle.ghash.specs.Hash.{big}
 use Rattle.ghash.specs.Machine.{bytesOfElement, entry, Table}
-use Rattle.ghash.specs.Inner.{highs, lows, indices, share}
+use Rattle.ghash.specs.Inner.{highs, lows, indices, share, Read}
 use Rattle.ghash.specs.declared.Element.{Element}
-use Rattle.ghash.proofs.BigEndian.{pow-pow, big-append}
+use Rattle.ghash.proofs.BigEndian.{pow-pow, big-lt, big-append}
+use Rattle.ghash.proofs.Elements.{element-block, big-sum}
 use Rattle.ghash.proofs.Product.{product-xor, product-zero}
 
 -- ---- a block's indices
@@ -61,19 +64,18 @@ module _ (r x : Element) where
       ∙ sym (map-append (λ b. b / 16 * 2) (little 8 (x .lo)) (little 8 (x .hi)))
 
 -- written, they stand there
-pub written : (m m′ s : List ℕ) (at : ℕ) → IsBlock s → at + 32 ≤ length m → m′ ≡ sets m at (indices s) → part at 32 m′ ≡ indices s
+pub reads : (m m′ s h t : List ℕ) (at : ℕ) → IsBlock s → at + 32 ≤ length m → m′ ≡ sets m at (indices s) → Table h t → Read s h m′ at t
 unfolding indices
-written m m′ s at b h e =
+reads m m′ s h t at b l e k =
     let v = highs s ++ lows s in
     let n : length v ≡ 32 = length-append (highs s) (lows s) ∙ ap₂ _+_ (length-map s _ ∙ b .long) (length-map s _ ∙ b .long) in
-    let k : length (take at m) ≡ at = simp length-take (omega arith) in
-    ap (part at 32) (e ∙ sets-eq v m at (omega arith) ∙ append-assoc (take at m) v (drop (at + length v) m))
-    ∙ ap (take 32) (drop-at (take at m) (v ++ drop (at + length v) m) at k) ∙ take-at v (drop (at + length v) m) 32 n
+    let q : length m′ ≡ length m = ap length e ∙ length-sets m at v in
+    record { within = omega arith; of-s = ap (part at 32) e ∙ read-written m at 32 v n l; of-h = k }
 
 -- and are read
 module _ (m s : List ℕ) (at : ℕ) (b : IsBlock s) (e : part at 32 m ≡ indices s) (k : ℕ) (hk : k < 16) where
   here : (j : ℕ) → j < 32 → getD m (at + j) 0 ≡ getD (indices s) j 0
-  here j h = sym (getD-take 32 (drop at m) j 0 h ∙ getD-drop at m j 0) ∙ ap (λ (l : List ℕ). getD l j 0) e
+  here j h = part-at m at 32 j h ∙ ap (λ (l : List ℕ). getD l j 0) e
 
   pub high-index : getD m (at + k) 0 ≡ getD s k 0 / 16 * 2
   unfolding indices
@@ -121,10 +123,6 @@ byte-entries t h k b m hk hb =
 -- ---- shares of a block
 
 module _ (s h : List ℕ) (b : IsBlock s) where
-  pub share-none : share s h 0 0 ≡ 0
-  unfolding share big
-  share-none = ap (λ (n : ℕ). product n (big h)) (zero-mul (256 ^ 16)) ∙ product-zero (big h)
-
   pub share-all : share s h 0 16 ≡ product (big s) (big h)
   unfolding share
   share-all = ap (λ (n : ℕ). product n (big h)) (mul-one (big (take 16 s)) ∙ ap big (take-all 16 s (let l = b .long in omega arith)))
@@ -142,20 +140,44 @@ module _ (s h : List ℕ) (b : IsBlock s) where
       byte-entries t h k (getD s k 0) m hk (b .below k)
       ∙ ap₂ (λ (x n : ℕ). product (x * 256 ^ n) (big h)) (sym (one-byte k hk)) e
 
-  -- one byte more
-  pub share-more : (k : ℕ) → k < 16 → share s h 0 k ⊕ share s h k 1 ≡ share s h 0 (k + 1)
+  -- what stands side by side
+  pub share-join : (k m n : ℕ) → k + m + n ≤ 16 → share s h k m ⊕ share s h (k + m) n ≡ share s h k (m + n)
   unfolding share
-  share-more k hk =
-      let a = big (take k s) in
-      let c = big (part k 1 s) in
-      let n = 16 - (k + 1) in
-      let one : length (part k 1 s) ≡ 1 = ap length (window 1 k s (let l = b .long in omega arith)) in
-      let hc : c < 256 = rw (one-byte k hk) (b .below k) in
-      let up : a * 256 * 256 ^ n ≡ a * 256 ^ (16 - (0 + k)) =
-      mul-assoc a 256 (256 ^ n) ∙ ap (λ (p : ℕ). a * p) (sym (pow-succ' 256 n) ∙ ap (λ (e : ℕ). 256 ^ e) (let e : suc n ≡ 16 - (0 + k) = omega arith in e)) in
-      let moved : (a * 256 ⊕ c) * 256 ^ n ≡ a * 256 * 256 ^ n ⊕ c * 256 ^ n = rw (pow-pow 8 n) (⊕-shl (a * 256) c (8 * n)) in
-      let joins : big (take (k + 1) s) ≡ a * 256 ⊕ c =
-      ap big (take-add k 1 s) ∙ big-append (take k s) (part k 1 s) ∙ ap (λ (l : ℕ). a * 256 ^ l + c) one ∙ sym (⊕-shifted a 8 c hc) in
-      let z : n ≡ 16 - (0 + (k + 1)) = omega arith in
-      sym (product-xor (a * 256 ^ (16 - (0 + k))) (c * 256 ^ n) (big h))
-      ∙ ap (λ (x : ℕ). product x (big h)) (sym (ap₂ (λ (x e : ℕ). x * 256 ^ e) joins (sym z) ∙ moved ∙ ap (λ (x : ℕ). x ⊕ c * 256 ^ n) up))
+  share-join k m n hk =
+      let a = big (part k m s) in
+      let c = big (part (k + m) n s) in
+      let e = 16 - (k + m + n) in
+      let r = part-row 256 16 (lit< tt) b (k + m) n (omega arith) in
+      let hc : c < 2 ^ (8 * n) = rw (← pow-pow 8 n) (big-lt n (part (k + m) n s) r) in
+      let joins : big (part k (m + n) s) ≡ a * 256 ^ n ⊕ c =
+      ap big (part-more s k m n) ∙ big-append (part k m s) (part (k + m) n s)
+      ∙ ap (λ (l : ℕ). a * 256 ^ l + c) (r .long) ∙ rw (pow-pow 8 n) (sym (⊕-shifted a (8 * n) c hc)) in
+      let moved : (a * 256 ^ n ⊕ c) * 256 ^ e ≡ a * 256 ^ n * 256 ^ e ⊕ c * 256 ^ e = rw (pow-pow 8 e) (⊕-shl (a * 256 ^ n) c (8 * e)) in
+      let up : a * 256 ^ n * 256 ^ e ≡ a * 256 ^ (16 - (k + m)) =
+      mul-assoc a (256 ^ n) (256 ^ e)
+      ∙ ap (λ (p : ℕ). a * p) (sym (pow-add 256 n e) ∙ ap (λ (x : ℕ). 256 ^ x) (let x : n + e ≡ 16 - (k + m) = omega arith in x)) in
+      let z : 16 - (k + (m + n)) ≡ e = omega arith in
+      sym (product-xor (a * 256 ^ (16 - (k + m))) (c * 256 ^ e) (big h))
+      ∙ ap (λ (x : ℕ). product x (big h)) (sym (ap₂ (λ (x y : ℕ). x * 256 ^ y) joins z ∙ moved ∙ ap (λ (x : ℕ). x ⊕ c * 256 ^ e) up))
+
+  -- the four quarters, and the four bytes of one
+  pub share-four : (k n : ℕ) → k + 4 * n ≤ 16
+      → (share s h k n ⊕ share s h (k + n) n) ⊕ (share s h (k + 2 * n) n ⊕ share s h (k + 3 * n) n) ≡ share s h k (4 * n)
+  share-four k n hk =
+      let p : k + 2 * n ≡ k + (n + n) = omega arith in
+      let q : k + 3 * n ≡ k + (n + n) + n = omega arith in
+      let w : 4 * n ≡ n + n + (n + n) = omega arith in
+      rw (p, q, w)
+      (ap₂ _⊕_ (share-join k n n (omega arith)) (share-join (k + (n + n)) n n (omega arith)) ∙ share-join k (n + n) (n + n) (omega arith))
+
+-- four elements that are shares of as many bytes each, one behind the other, summed two by two
+pub four-shares : (x h r p q a b c d : Element) (k n : ℕ) → k + 4 * n ≤ 16
+    → bytesOfElement p ≡ xors (bytesOfElement a) (bytesOfElement b) → bytesOfElement q ≡ xors (bytesOfElement c) (bytesOfElement d)
+    → bytesOfElement r ≡ xors (bytesOfElement p) (bytesOfElement q)
+    → big (bytesOfElement a) ≡ share (bytesOfElement x) (bytesOfElement h) k n → big (bytesOfElement b) ≡ share (bytesOfElement x) (bytesOfElement h) (k + n) n
+    → big (bytesOfElement c) ≡ share (bytesOfElement x) (bytesOfElement h) (k + 2 * n) n
+    → big (bytesOfElement d) ≡ share (bytesOfElement x) (bytesOfElement h) (k + 3 * n) n
+    → big (bytesOfElement r) ≡ share (bytesOfElement x) (bytesOfElement h) k (4 * n)
+four-shares x h r p q a b c d k n l ep eq er ea eb ec ed =
+    big-sum r p q er ∙ ap₂ _⊕_ (big-sum p a b ep ∙ ap₂ _⊕_ ea eb) (big-sum q c d eq ∙ ap₂ _⊕_ ec ed)
+    ∙ share-four (bytesOfElement x) (bytesOfElement h) (element-block x) k n l

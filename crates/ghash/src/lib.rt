@@ -1,18 +1,17 @@
 // GHASH of NIST SP 800-38D on two halves of 64 bits. A product is the xor of 32 entries, one for each four bits of a block, of a table that is
 // made once for an H and lent.
 ghost use mathlib.Core.Path.{_≡_};
-ghost use mathlib.Core.List.{_++_};
 ghost use Prim.Native.Nat.{_+_, _*_, _<_, _≤_};
 ghost use lib.ListN.{set, length};
 ghost use lib.Seq.{sets};
 ghost use Rattle.words.specs.Xor.{xors};
-ghost use Rattle.words.specs.Bytes.{little, part, zeros};
+ghost use Rattle.words.specs.Bytes.{little, zeros};
 ghost use Rattle.words.specs.Machine.{bytesOf};
 ghost use Rattle.ghash.specs.Field.{timesX, product};
 ghost use Rattle.ghash.specs.Hash as Hash;
 ghost use Rattle.ghash.specs.Hash.{big, eat};
 ghost use Rattle.ghash.specs.Machine.{bytesOfElement, entry, Table};
-ghost use Rattle.ghash.specs.Inner.{numberOf, entries, multiples, fours, lows, indices, share};
+ghost use Rattle.ghash.specs.Inner.{numberOf, entries, multiples, fours, lows, indices, share, Read, Quarters};
 use words::Block;
 
 // A block in the order of its bytes: `lo` is bytes 0 to 7, low byte first, and `hi` bytes 8 to 15.
@@ -42,20 +41,13 @@ fn xor(a: Element, b: Element) -> Element
     }
 }
 
-// A half of two words, the low one first.
-fn join(a: u32, b: u32) -> u64
-    ensures { λ r. ⌜ little 8 r ≡ little 4 a ++ little 4 b ⌝ }
-{
-    (a as u64) + (b as u64) * 0x100000000
-}
-
 // A block of the cipher, and back: the same 16 bytes.
 pub fn from_block(b: Block) -> Element
     ensures { λ r. ⌜ bytesOfElement r ≡ bytesOf b ⌝ }
 {
     Element {
-        lo: join(b.w0, b.w1),
-        hi: join(b.w2, b.w3),
+        lo: words::join(b.w0, b.w1),
+        hi: words::join(b.w2, b.w3),
     }
 }
 
@@ -189,8 +181,8 @@ fn twice_low(x: u64) -> u64
 }
 
 // Where a block's entries stand within their places, 32 bytes of m: twice the high four bits of each of its bytes, then twice the low four.
-fn indices(m: &mut [u8; 512], at: usize, x: Element)
-    requires { ⌜ (at + 32 ≤ 512) × (length (now m) ≡ 512) ⌝ }
+fn indices(m: &mut [u8], at: usize, x: Element)
+    requires { ⌜ at + 32 ≤ length (now m) ⌝ }
     ensures { λ _. ⌜ now (m .exit) ≡ sets (now (m .entry)) at (indices (bytesOfElement x)) ⌝ }
 {
     let high = Element {
@@ -219,8 +211,8 @@ fn entry(table: &[u64; 1024], i: usize, b: u8) -> Element
 
 // What byte k of x, at its place, • h makes: its two entries. `x` and `h` themselves are not read: they say in the contract whose indices and
 // whose table these are.
-fn byte(m: &[u8; 512], at: usize, k: usize, x: Element, h: Element, table: &[u64; 1024]) -> Element
-    requires { ⌜ (at + 32 ≤ 512) × (k < 16) × (part at 32 (now m) ≡ indices (bytesOfElement x)) × Table (bytesOfElement h) (now table) ⌝ }
+fn byte(m: &[u8], at: usize, k: usize, x: Element, h: Element, table: &[u64; 1024]) -> Element
+    requires { ⌜ (k < 16) × Read (bytesOfElement x) (bytesOfElement h) (now m) at (now table) ⌝ }
     ensures { λ r. ⌜ big (bytesOfElement r) ≡ share (bytesOfElement x) (bytesOfElement h) k 1 ⌝ }
 {
     xor(
@@ -229,22 +221,31 @@ fn byte(m: &[u8; 512], at: usize, k: usize, x: Element, h: Element, table: &[u64
     )
 }
 
-// x • h, from the indices of x at a place of m.
-fn product_at(m: &[u8; 512], at: usize, x: Element, h: Element, table: &[u64; 1024]) -> Element
-    requires { ⌜ (at + 32 ≤ 512) × (part at 32 (now m) ≡ indices (bytesOfElement x)) × Table (bytesOfElement h) (now table) ⌝ }
+// And four bytes from byte k on.
+fn quarter(m: &[u8], at: usize, k: usize, x: Element, h: Element, table: &[u64; 1024]) -> Element
+    requires { ⌜ (k + 4 ≤ 16) × Read (bytesOfElement x) (bytesOfElement h) (now m) at (now table) ⌝ }
+    ensures { λ r. ⌜ big (bytesOfElement r) ≡ share (bytesOfElement x) (bytesOfElement h) k 4 ⌝ }
+{
+    xor(
+        xor(byte(m, at, k, x, h, table), byte(m, at, k + 1, x, h, table)),
+        xor(
+            byte(m, at, k + 2, x, h, table),
+            byte(m, at, k + 3, x, h, table),
+        ),
+    )
+}
+
+// x • h, of its quarters.
+fn of_quarters(a: Element, b: Element, c: Element, d: Element, x: Element, h: Element) -> Element
+    requires { ⌜ Quarters (bytesOfElement x) (bytesOfElement h) a b c d ⌝ }
     ensures { λ r. ⌜ big (bytesOfElement r) ≡ product (big (bytesOfElement x)) (big (bytesOfElement h)) ⌝ }
 {
-    let mut z = zero();
-    let mut k: usize = 0;
-    while k < 16 {
-        z = xor(z, byte(m, at, k, x, h, table));
-        k += 1;
-    }
-    z
+    xor(xor(a, b), xor(c, d))
 }
 
 // One block more: (y ⊕ x) • h. The indices go into m at a place that a loop changes from block to block: the compiler then reads each from
-// memory, and does not shift it out of a word again.
+// memory, and does not shift it out of a word again. A function that has one caller is compiled into it, and so are the quarters, which are short
+// enough for any number of callers.
 pub fn absorb_at(
     y: Element,
     x: Element,
@@ -259,18 +260,32 @@ pub fn absorb_at(
 {
     let s = xor(y, x);
     indices(m, at, s);
-    product_at(m, at, s, h, table)
+    of_quarters(
+        quarter(m, at, 0, s, h, table),
+        quarter(m, at, 4, s, h, table),
+        quarter(m, at, 8, s, h, table),
+        quarter(m, at, 12, s, h, table),
+        s,
+        h,
+    )
 }
 
-// The same for a single block. With two callers `product_at` is compiled into neither, where its indices would become shifts again.
+// The same for a single block, and where nothing else is made meanwhile.
 pub fn absorb_element(y: Element, x: Element, h: Element, table: &[u64; 1024]) -> Element
     requires { ⌜ Table (bytesOfElement h) (now table) ⌝ }
     ensures { λ r. ⌜ bytesOfElement r ≡ eat (bytesOfElement h) (bytesOfElement y) (bytesOfElement x) ⌝ }
 {
-    let mut m = [0u8; 512];
+    let mut m = [0u8; 32];
     let s = xor(y, x);
     indices(&mut m, 0, s);
-    product_at(&m, 0, s, h, table)
+    of_quarters(
+        quarter(&m, 0, 0, s, h, table),
+        quarter(&m, 0, 4, s, h, table),
+        quarter(&m, 0, 8, s, h, table),
+        quarter(&m, 0, 12, s, h, table),
+        s,
+        h,
+    )
 }
 
 // The same for a block of the cipher.

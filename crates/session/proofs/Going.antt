@@ -1,9 +1,9 @@
--- A piece on its way, done up to place i: what is left leads where the whole leads, in the session and in the output. The loop over blocks and
--- the chain of head, blocks and tail both go by it.
-use mathlib.Core.Path.{_≡_, refl, sym, ap, _∙_}
+-- A piece on its way, done up to place i: session and output are what the definition makes of its front. The loop over blocks and the chain of
+-- head, blocks and tail both go by it.
+use mathlib.Core.Path.{_≡_, refl, sym, ap, ap₂, _∙_}
 use mathlib.Core.List.{List, _++_}
 use Prim.Native.Nat.{ℕ, _+_, _-_, _*_, _/_, _%_, _≤_, _<_}
-use native.Mathlib.Nat.{zero-add, le-trans}
+use native.Mathlib.Nat.{zero-add, le-refl, le-trans}
 use native.Mathlib.Omega.{arith}
 use lib.ListN.{length, drop}
 use lib.Seq.{sets, sets-eq, length-sets, slice, slice-empty, length-slice}
@@ -15,46 +15,55 @@ use Rattle.session.proofs.Pieces.{text-none, out-none, text-append, out
 
 -- the session was s and the output o; they are u and out
 pub record Going (s : Session) (p o : List ℕ) (from to : ℕ) (out : List ℕ) (u : Session) (i : ℕ) : Type 0 where
+  pub since : from ≤ i
   pub bound : i ≤ to
   pub counts : u .text + (to - i) ≡ s .text + (to - from)
   pub key : u .h ≡ s .h
   pub size : length out ≡ length o
-  pub session : text-taken u (slice i to p) ≡ text-taken s (slice from to p)
-  pub output : sets out i (text-out u (slice i to p)) ≡ sets o from (text-out s (slice from to p))
+  pub session : u ≡ text-taken s (slice from i p)
+  pub output : out ≡ sets o from (text-out s (slice from i p))
 
 pub none : (s : Session) (p o : List ℕ) (from to : ℕ) → from ≤ to → Going s p o from to o s from
-none s p o from to h = record { bound = h; counts = refl; key = refl; size = refl; session = refl; output = refl }
+none s p o from to h =
+    record {
+      since = le-refl from;
+      bound = h;
+      counts = refl;
+      key = refl;
+      size = refl;
+      session = sym (ap (text-taken s) (slice-empty from p) ∙ text-none s);
+      output = sym (ap (sets o from) (ap (text-out s) (slice-empty from p) ∙ out-none s));
+    }
 
 module _ {s : Session} {p o : List ℕ} {from to : ℕ} {out : List ℕ} {u : Session} {i : ℕ} (g : Going s p o from to out u i) where
   -- the part from i up to m is done
   pub more : (out′ : List ℕ) (u′ : Session) (m : ℕ) → i ≤ m → m ≤ to → to ≤ length p → u′ ≡ text-taken u (slice i m p)
       → out′ ≡ sets out i (text-out u (slice i m p)) → Going s p o from to out′ u′ m
   more out′ u′ m him hmt ht eu eo =
-      let cut : slice i to p ≡ slice i m p ++ slice m to p = slice-split i m to p him hmt ht in
-      let n : length (slice i m p) ≡ m - i = length-slice i m p (omega arith) in
-      let w : length (text-out u (slice i m p)) ≡ m - i = out-length u (slice i m p) ∙ n in
-      let at : i + length (text-out u (slice i m p)) ≡ m = omega arith in
-      let x : text-taken u (slice i m p) .text ≡ u .text + (m - i) = text-count u (slice i m p) ∙ ap (λ (k : ℕ). u .text + k) n in
-      rw (eu, eo)
-      (record {
+      let a = slice from i p in
+      let b = slice i m p in
+      let cut : slice from m p ≡ a ++ b = slice-split from i m p (g .since) him (le-trans hmt ht) in
+      let n : length b ≡ m - i = length-slice i m p (omega arith) in
+      let w : length (text-out s a) ≡ i - from = out-length s a ∙ length-slice from i p (omega (arith, g .bound)) in
+      let at : i ≡ from + length (text-out s a) = omega (arith, g .since) in
+      let x : u′ .text ≡ u .text + (m - i) = ap (λ (v : Session). v .text) eu ∙ text-count u b ∙ ap (λ (k : ℕ). u .text + k) n in
+      record {
+        since = le-trans (g .since) him;
         bound = hmt;
         counts = omega (arith, x, g .counts, g .bound);
-        key = text-h u (slice i m p) ∙ g .key;
-        size = length-sets out i (text-out u (slice i m p)) ∙ g .size;
-        session = sym (text-append u (slice i m p) (slice m to p)) ∙ ap (text-taken u) (sym cut) ∙ g .session;
-        output =
-            ap (λ (j : ℕ). sets (sets out i (text-out u (slice i m p))) j (text-out (text-taken u (slice i m p)) (slice m to p))) (sym at)
-            ∙ sym (sets-append out i (text-out u (slice i m p)) (text-out (text-taken u (slice i m p)) (slice m to p)))
-            ∙ ap (sets out i) (sym (out-append u (slice i m p) (slice m to p)) ∙ ap (text-out u) (sym cut)) ∙ g .output;
-      })
+        key = ap (λ (v : Session). v .h) eu ∙ text-h u b ∙ g .key;
+        size = ap length eo ∙ length-sets out i (text-out u b) ∙ g .size;
+        session = eu ∙ ap (λ (v : Session). text-taken v b) (g .session) ∙ sym (text-append s a b) ∙ ap (text-taken s) (sym cut);
+        output = eo ∙ ap₂ (λ (l : List ℕ) (v : Session). sets l i (text-out v b)) (g .output) (g .session)
+            ∙ ap (λ (j : ℕ). sets (sets o from (text-out s a)) j (text-out (text-taken s a) b)) at
+            ∙ sym (sets-append o from (text-out s a) (text-out (text-taken s a) b)) ∙ ap (sets o from) (sym (out-append s a b) ∙ ap (text-out s) (sym cut));
+      }
 
   pub all-session : i ≡ to → u ≡ text-taken s (slice from to p)
-  all-session e =
-      sym (text-none u) ∙ ap (text-taken u) (sym (slice-empty to p)) ∙ ap (λ (k : ℕ). text-taken u (slice k to p)) (sym e) ∙ g .session
+  all-session e = g .session ∙ ap (λ (k : ℕ). text-taken s (slice from k p)) e
 
   pub all-output : i ≡ to → out ≡ sets o from (text-out s (slice from to p))
-  all-output e =
-      ap (sets out i) (sym (out-none u) ∙ ap (text-out u) (sym (slice-empty to p)) ∙ ap (λ (k : ℕ). text-out u (slice k to p)) (sym e)) ∙ g .output
+  all-output e = g .output ∙ ap (λ (k : ℕ). sets o from (text-out s (slice from k p))) e
 
 -- ---- head, blocks and tail of a piece of n bytes, at text length t
 

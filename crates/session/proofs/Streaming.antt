@@ -1,16 +1,16 @@
--- The keystream alone, done up to place i: some session has come by text to place i, at the start of a block, with the registers r, and what is
--- left leads where the whole leads. What that session holds of the hash does not matter to what it writes, so the code keeps none.
+-- The keystream alone, done up to place i: some session has come by text to place i, at the start of a block, with the registers r. What that
+-- session holds of the hash does not matter to what it writes, so the code keeps none.
 use mathlib.Core.Path.{_≡_, refl, sym, ap, ap₂, subst, _∙_}
 use mathlib.Core.List.{List, _++_}
 use Prim.Native.Nat.{ℕ, _+_, _-_, _*_, _%_, _≤_, _<_, zero-le}
 use native.Mathlib.Omega.{arith}
-use lib.ListN.{length, drop}
-use lib.Seq.{sets, length-sets, slice, length-slice}
+use lib.ListN.{length, take, drop}
+use lib.Seq.{sets, length-sets, slice, length-slice, take-add}
 use Rattle.words.specs.Xor.{xors}
 use Rattle.words.specs.Bytes.{part}
 use Rattle.words.proofs.Rows.{xors-length, xors-append}
 use Rattle.words.proofs.Parts.{part-long, part-more}
-use Rattle.words.proofs.Writing.{put-next, sets-over, read-behind, read-written}
+use Rattle.words.proofs.Writing.{put-next, read-written}
 use Rattle.cipher.specs.Registers.{Registers, IsRegisters}
 use Rattle.cipher.specs.Step.{z}
 use Rattle.cipher.specs.Run.{forward, moves, blocks}
@@ -73,52 +73,45 @@ pub stream-done : {s : Session} {p o : List ℕ} {out : List ℕ} {r : Registers
     → out ≡ text-out s p ++ drop (length p) o
 stream-done g e h = whole (g .going) e h .1
 
--- ---- keystream that stands in the output, xored with the input
+-- ---- blocks of the input under keystream
 
 -- of the n blocks from a place on i are done
-pub record Xored (p o : List ℕ) (from n i : ℕ) (out : List ℕ) : Type 0 where
+pub record Under (p key o : List ℕ) (from n i : ℕ) (out : List ℕ) : Type 0 where
   pub at-most : i ≤ n
-  pub written : out ≡ sets o from (xors (part from (16 * i) p) (part from (16 * i) o))
+  pub written : out ≡ sets o from (xors (part from (16 * i) p) (take (16 * i) key))
 
-pub xored-long : {p o : List ℕ} {from n i : ℕ} {out : List ℕ} → Xored p o from n i out → length out ≡ length o
-xored-long {p} {o} {from} {n} {i} m = ap length (m .written) ∙ length-sets o from (xors (part from (16 * i) p) (part from (16 * i) o))
+pub under-size : {p key o : List ℕ} {from n i : ℕ} {out : List ℕ} → Under p key o from n i out → length out ≡ length o
+under-size {p} {key} {o} {from} {n} {i} m = ap length (m .written) ∙ length-sets o from (xors (part from (16 * i) p) (take (16 * i) key))
 
-module _ (p o : List ℕ) (from n : ℕ) where
-  pub xored-none : Xored p o from n 0 o
+module _ (p key o : List ℕ) (from n : ℕ) where
+  pub under-none : Under p key o from n 0 o
   unfolding xors
-  xored-none = record { at-most = zero-le; written = refl }
+  under-none = record { at-most = zero-le; written = refl }
 
-  pub xored-more : from + 16 * n ≤ length p → from + 16 * n ≤ length o → (i : ℕ) {out c out′ : List ℕ} → i < n → Xored p o from n i out
-      → c ≡ xors (part (from + 16 * i) 16 p) (part (from + 16 * i) 16 out) → out′ ≡ sets out (from + 16 * i) c → Xored p o from n (i + 1) out′
-  xored-more read room i {out} {c} {out′} lt m ec eo =
+  pub under-block : from + 16 * n ≤ length p → 16 * n ≤ length key → (i : ℕ) {out c out′ : List ℕ} → i < n → Under p key o from n i out
+      → c ≡ xors (part (from + 16 * i) 16 p) (part (16 * i) 16 key) → out′ ≡ sets out (from + 16 * i) c → Under p key o from n (i + 1) out′
+  under-block read long i {out} {c} {out′} lt m ec eo =
       let at = from + 16 * i in
-      let v = xors (part from (16 * i) p) (part from (16 * i) o) in
+      let v = xors (part from (16 * i) p) (take (16 * i) key) in
       let kp = part-long p from (16 * i) (omega arith) in
-      let ko = part-long o from (16 * i) (omega arith) in
-      let long : length v ≡ 16 * i = xors-length (part from (16 * i) p) (part from (16 * i) o) (kp ∙ sym ko) ∙ kp in
-      let still : part at 16 out ≡ part at 16 o = ap (part at 16) (m .written) ∙ read-behind o at 16 from v (omega arith) in
+      let kk = part-long key 0 (16 * i) (omega arith) in
+      let kv : length v ≡ 16 * i = xors-length (part from (16 * i) p) (take (16 * i) key) (kp ∙ sym kk) ∙ kp in
       let e : 16 * (i + 1) ≡ 16 * i + 16 = omega arith in
       record {
         at-most = omega arith;
-        written = put-next o v (xors (part at 16 p) (part at 16 o)) from at (omega arith) (m .written) (eo ∙ ap (sets out at) (ec ∙ ap (xors (part at 16 p)) still))
-            ∙ ap (sets o from) (sym (xors-append (part from (16 * i) p) (part from (16 * i) o) (part at 16 p) (part at 16 o) (kp ∙ sym ko))
-            ∙ ap₂ xors (sym (part-more p from (16 * i) 16)) (sym (part-more o from (16 * i) 16))
-            ∙ ap (λ (k : ℕ). xors (part from k p) (part from k o)) (sym e));
+        written = put-next o v (xors (part at 16 p) (part (16 * i) 16 key)) from at (omega arith) (m .written) (eo ∙ ap (sets out at) ec)
+            ∙ ap (sets o from) (sym (xors-append (part from (16 * i) p) (take (16 * i) key) (part at 16 p) (part (16 * i) 16 key) (kp ∙ sym kk))
+            ∙ ap₂ xors (sym (part-more p from (16 * i) 16)) (sym (take-add (16 * i) 16 key))
+            ∙ ap (λ (k : ℕ). xors (part from k p) (take k key)) (sym e));
       }
 
-  pub xored-all : {i : ℕ} {out : List ℕ} → n ≤ i → Xored p o from n i out → out ≡ sets o from (xors (part from (16 * n) p) (part from (16 * n) o))
-  xored-all {i} h m = m .written ∙ ap (λ (k : ℕ). sets o from (xors (part from (16 * k) p) (part from (16 * k) o))) (let e : i ≡ n = omega (arith, m .at-most) in e)
+  pub under-all : {i : ℕ} {out : List ℕ} → n ≤ i → Under p key o from n i out → out ≡ sets o from (xors (part from (16 * n) p) (take (16 * n) key))
+  under-all {i} h m = m .written ∙ ap (λ (k : ℕ). sets o from (xors (part from (16 * k) p) (take (16 * k) key))) (let e : i ≡ n = omega (arith, m .at-most) in e)
 
--- k blocks drawn into the output, and then xored
-pub drawn-xored : (p o : List ℕ) (r : Registers) (i k : ℕ) {o₁ o₂ : List ℕ} → IsRegisters r → i + 16 * k ≤ length p → i + 16 * k ≤ length o
-    → o₁ ≡ sets o i (blocks forward k r) → o₂ ≡ sets o₁ i (xors (part i (16 * k) p) (part i (16 * k) o₁))
-    → o₂ ≡ sets o i (under-blocks r k (slice i (i + 16 * k) p))
-drawn-xored p o r i k {o₁} {o₂} g read room e₁ e₂ =
-    let ks = blocks forward k r in
-    let long : length ks ≡ 16 * k = blocks-length forward k r g in
-    let n = part-long p i (16 * k) read in
-    let x = xors (part i (16 * k) p) ks in
-    let kx : length x ≡ 16 * k = xors-length (part i (16 * k) p) ks (n ∙ sym long) ∙ n in
-    let stands : part i (16 * k) o₁ ≡ ks = ap (part i (16 * k)) e₁ ∙ read-written o i (16 * k) ks long room in
-    e₂ ∙ ap₂ (λ (l v : List ℕ). sets l i (xors (part i (16 * k) p) v)) e₁ stands ∙ sets-over o ks x i (long ∙ sym kx) (omega arith)
-    ∙ ap (λ (l : List ℕ). sets o i (xors l ks)) (sym (slice-take i (16 * k) p))
+-- under k blocks that were drawn
+pub under-drawn : (p o key : List ℕ) (r : Registers) (i k : ℕ) {key₁ o₁ : List ℕ} → IsRegisters r → 16 * k ≤ length key
+    → key₁ ≡ sets key 0 (blocks forward k r) → o₁ ≡ sets o i (xors (part i (16 * k) p) (take (16 * k) key₁))
+    → o₁ ≡ sets o i (under-blocks r k (slice i (i + 16 * k) p))
+under-drawn p o key r i k {key₁} {o₁} g room ek eo =
+    let stands : take (16 * k) key₁ ≡ blocks forward k r = ap (take (16 * k)) ek ∙ read-written key 0 (16 * k) (blocks forward k r) (blocks-length forward k r g) (omega arith) in
+    eo ∙ ap₂ (λ (l v : List ℕ). sets o i (xors l v)) (sym (slice-take i (16 * k) p)) stands

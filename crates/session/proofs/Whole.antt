@@ -7,6 +7,7 @@ use native.Mathlib.Numerals.{add-one}
 use lib.ListN.{length, take, drop, take-append-drop, length-take, length-drop}
 use lib.Seq.{sets, slice, slice-empty, length-slice, length-sets}
 use Rattle.words.specs.Bytes.{part}
+use Rattle.words.proofs.Parts.{part-long}
 use Rattle.words.proofs.Writing.{put-next}
 use Rattle.digest.proofs.Slices.{slice-split, slice-take}
 use Rattle.words.specs.Xor.{xors}
@@ -145,7 +146,7 @@ module _ (h y₀ piece out₀ : List ℕ) (s : Registers) (g : IsRegisters s) (f
       let b = part (from + 16 * i) 16 piece in
       let k = z (moves forward i s) in
       let ea : length a ≡ 16 * i = length-slice from (from + 16 * i) piece (omega arith) ∙ omega arith in
-      let eb′ : length b ≡ 16 = simp (length-take, length-drop) (omega arith) in
+      let eb′ : length b ≡ 16 = part-long piece (from + 16 * i) 16 (omega arith) in
       let both : slice from (from + 16 * (i + 1)) piece ≡ a ++ b =
       ap (λ (q : ℕ). slice from q piece) (let f : from + 16 * (i + 1) ≡ from + 16 * i + 16 = omega arith in f)
       ∙ slice-split from (from + 16 * i) (from + 16 * i + 16) piece (omega arith) (omega arith) (omega arith)

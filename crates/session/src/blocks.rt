@@ -137,10 +137,7 @@ fn full(
     let y = d.acc;
     let p = d.pending;
     let v = ghash::absorb(y, words::load(&p, 0), h, table);
-    let e = Held {
-        acc: v,
-        pending: [0; 16],
-    };
+    let e = digest::fresh(v);
     r.held = e;
     r
 }
@@ -200,21 +197,10 @@ fn sealed_batch(
         y = ghash::absorb_at(y, ghash::from_block(c), h, table, &mut m, 32 * i);
         i += 1;
     }
-    let q1 = words::load(&l1, 16 * n);
-    let q2 = words::load(&l2, 16 * n);
-    let mut r = s;
-    r.lfsr = l;
-    r.r1 = q1;
-    r.r2 = q2;
-    r.r3 = r3;
-    let e = Held {
-        acc: y,
-        pending: [0; 16],
-    };
     Track {
-        state: r,
+        state: lanes::moved_to(s, l, &l1, &l2, 16 * n, r3),
         z: z,
-        held: e,
+        held: digest::fresh(y),
     }
 }
 

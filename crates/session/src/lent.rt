@@ -3,7 +3,7 @@
 ghost use mathlib.Core.Path.{_≡_};
 ghost use mathlib.Core.List.{_++_};
 ghost use Prim.Native.Nat.{_+_, _*_, _%_, _^_, _<_, _≤_};
-ghost use lib.ListN.{length, drop};
+ghost use lib.ListN.{length, take, drop};
 ghost use lib.Seq.{sets};
 ghost use Rattle.words.specs.Bytes.{part};
 ghost use Rattle.aes.specs.Tables.{Holds};
@@ -114,10 +114,10 @@ pub fn tag_with(s: Session, table: &[u64; 1024]) -> Block
     tag_from(s, y, table)
 }
 
-// n blocks of the input xored to those that stand in the output, from a place of both on.
-fn xor_in(input: &[u8], out: &mut [u8], from: usize, n: usize)
-    requires { ⌜ (from + 16 * n ≤ length (now input)) × (from + 16 * n ≤ length (now out)) ⌝ }
-    ensures { λ _. ⌜ now (out .exit) ≡ sets (now (out .entry)) from (xors (part from (16 * n) (now (input .entry))) (part from (16 * n) (now (out .entry)))) ⌝ }
+// n blocks of the input, from a place on, under as many of keystream: written from there on.
+fn under_blocks(input: &[u8], key: &[u8], out: &mut [u8], from: usize, n: usize)
+    requires { ⌜ (from + 16 * n ≤ length (now input)) × (from + 16 * n ≤ length (now out)) × (16 * n ≤ length (now key)) ⌝ }
+    ensures { λ _. ⌜ now (out .exit) ≡ sets (now (out .entry)) from (xors (part from (16 * n) (now (input .entry))) (take (16 * n) (now (key .entry)))) ⌝ }
 {
     let mut i: usize = 0;
     while i < n {
@@ -125,7 +125,7 @@ fn xor_in(input: &[u8], out: &mut [u8], from: usize, n: usize)
         words::store(
             out,
             at,
-            words::xor(words::load(input, at), words::load(out, at)),
+            words::xor(words::load(input, at), words::load(key, 16 * i)),
         );
         i += 1;
     }
@@ -139,12 +139,13 @@ pub fn apply_keystream(s: Session, input: &[u8], out: &mut [u8], rounds: &[u32; 
     let n = input.len();
     let to = n / 16 * 16;
     let mut state = s.state;
+    let mut key = [0u8; 256];
     let mut i: usize = 0;
     while i < to {
         let k = lanes::at_most((to - i) / 16);
-        let t = lanes::batch(state, rounds, out, i, k);
+        let t = lanes::batch(state, rounds, &mut key, 0, k);
         state = t;
-        xor_in(input, out, i, k);
+        under_blocks(input, &key, out, i, k);
         i += 16 * k;
     }
     if i < n {

@@ -12,7 +12,7 @@ use Rattle.cipher.specs.Registers.{Registers, IsRegisters}
 use Rattle.cipher.specs.Step.{sigma, T1, T2, step}
 use Rattle.cipher.specs.Run.{moves}
 use Rattle.cipher.specs.Inner.{clocked, Tapped}
-use Rattle.cipher.proofs.Standing.{Standing, Turned, tapped-1, tapped-2, turn-z, turn-stands}
+use Rattle.cipher.proofs.Standing.{Standing, Turned, turned-by, tapped-1, tapped-2, turn-z, turn-stands}
 use Rattle.start.specs.Start.{into-a, initial, initials}
 use Rattle.start.specs.Inner.{fed}
 use Rattle.start.proofs.Undo.{initials-good}
@@ -34,17 +34,7 @@ module _ (s : Registers) (g : IsRegisters s) (i : ℕ) (h : i < 16) {l1 l2 r3 m1
 
   its-turn : Turned (16 * i) l1 l2 r3 (T1 here) (T2 here) m1 m2 n3 block
   unfolding moves
-  its-turn =
-      record {
-        n1 = t .n1;
-        n2 = t .n2;
-        makes1 = t .makes1 ∙ ap (λ (x : List ℕ). sigma (part (16 * i) 16 l2 ⊞ xors r3 x)) (tapped-2 here 1 t1 t2 its 0 (omega arith));
-        makes2 = t .makes2;
-        makes3 = t .makes3;
-        writes1 = t .writes1;
-        writes2 = t .writes2;
-        gives = t .gives ∙ ap (λ (x : List ℕ). xors (part (16 * i) 16 m1 ⊞ x) (part (16 * i) 16 m2)) (tapped-1 here 1 t1 t2 its 0 (omega arith));
-      }
+  its-turn = turned-by (tapped-1 here 1 t1 t2 its 0 (omega arith)) (tapped-2 here 1 t1 t2 its 0 (omega arith)) t
 
   pub fed-more : Fed s (i + 1) m1 m2 n3 k
   unfolding clocked initials initial into-a step
@@ -58,14 +48,3 @@ module _ (s : Registers) (g : IsRegisters s) (i : ℕ) (h : i < 16) {l1 l2 r3 m1
             (record { long1 = u .long1; long2 = u .long2; in-r1 = u .in-r1; in-r2 = u .in-r2; in-r3 = u .in-r3 });
         lfsr = ek ∙ ap₂ fed (turn-z here good (16 * i) (st .stands) (omega arith) its-turn) (em ∙ ap (clocks snowV 8) (st .lfsr));
       })
-
--- the registers at the end
-pub fed-ends : (s t : Registers) (n : ℕ) {l1 l2 r3 : List ℕ} {l : Lfsr} → Fed s n l1 l2 r3 l
-    → t .lfsr ≡ l → t .r1 ≡ part (16 * n) 16 l1 → t .r2 ≡ part (16 * n) 16 l2 → t .r3 ≡ r3 → t ≡ initials n s
-fed-ends s t n st e e1 e2 e3 =
-    λ i. record {
-      lfsr = (e ∙ st .lfsr) i;
-      r1 = (e1 ∙ st .stands .in-r1) i;
-      r2 = (e2 ∙ st .stands .in-r2) i;
-      r3 = (e3 ∙ st .stands .in-r3) i;
-    }

@@ -5,26 +5,18 @@ use mathlib.Core.List.{List, _++_}
 use Rattle.scope.specs.Refusals.{granted}
 use Rattle.words.specs.Bytes.{little}
 use Rattle.words.specs.Machine.{bytesOf}
-use Rattle.cipher.specs.declared.State.{State}
-use Rattle.cipher.specs.declared.Moved.{Moved}
-use Rattle.cipher.specs.Step.{z}
 use Rattle.cipher.specs.Machine.{registersOf}
 use Rattle.start.specs.declared.Mode as machine-mode
 use Rattle.start.specs.declared.Mode.the-variants.{Plain, Sealed}
 use Rattle.start.specs.declared.Started.{Started}
 use Rattle.start.specs.declared.Traced as machine
 use Rattle.start.specs.declared.Traced.the-variants.{Found, Refused}
-use Rattle.start.specs.Start.{Mode, Mode.plain, Mode.sealed, initial, start, start-number, blank}
+use Rattle.start.specs.Start.{Mode, Mode.plain, Mode.sealed, start, start-number, blank}
 use Rattle.start.specs.Leads.{Traced, Traced.origin, Traced.refused}
 
 abbrev pub modeOf : machine-mode.Mode → Mode
 modeOf Plain = plain
 modeOf Sealed = sealed
-
--- one of a start's 16 steps: the registers, and the z that was xored in
-pub record Initials (s : State) (r : Moved) : Type 0 where
-  pub state : registersOf (r .state) ≡ initial (registersOf s)
-  pub z : bytesOf (r .z) ≡ z (registersOf s)
 
 -- what a start answers: document 01's number, and the registers
 pub record Starts (key iv : List ℕ) (m : Mode) (r : Started) : Type 0 where

@@ -15,10 +15,9 @@ ghost use Rattle.start.specs.Start.{blank, mode-cells, start-number};
 ghost use Rattle.start.specs.Leads;
 ghost use Rattle.start.specs.Leads.{Traces};
 ghost use Rattle.start.specs.Trace;
-ghost use Rattle.start.specs.Machine.{modeOf, Initials, Starts, tracedOf};
+ghost use Rattle.start.specs.Machine.{modeOf, Starts, tracedOf};
 ghost use Rattle.start.specs.Inner;
 ghost use Rattle.start.specs.Inner.{walk-number};
-use cipher::Moved;
 use cipher::State;
 use cipher::lanes;
 use lfsr::Lfsr;
@@ -116,20 +115,8 @@ pub fn into_r1(s: State, x: Block) -> State
     r
 }
 
-// One of the 16 steps of a start, with the z that it gives.
-pub fn initial(s: State, rounds: &[u32; 256]) -> Moved
-    requires { ⌜ Holds wide (now rounds) ⌝ }
-    ensures { λ r. ⌜ Initials s r ⌝ }
-{
-    let w = lanes::forward(s, rounds);
-    let n = w.state;
-    let z = w.z;
-    let m = into_a(n, z);
-    Moved { state: m, z: z }
-}
-
-// At most 16 of them, R1 and R2 in lanes as in `lanes::batch`. Register A takes every z in, so that A and B go step by step too.
-fn initials(s: State, n: usize, rounds: &[u32; 256]) -> State
+// At most 16 steps of a start, R1 and R2 in lanes as in `lanes::batch`. Register A takes every z in, so that A and B go step by step too.
+pub fn initials(s: State, n: usize, rounds: &[u32; 256]) -> State
     requires { ⌜ (n ≤ 16) × Holds wide (now rounds) ⌝ }
     ensures { λ r. ⌜ registersOf r ≡ Start.initials n (registersOf s) ⌝ }
 {
@@ -158,14 +145,7 @@ fn initials(s: State, n: usize, rounds: &[u32; 256]) -> State
         l = k;
         i += 1;
     }
-    let q1 = words::load(&l1, 16 * n);
-    let q2 = words::load(&l2, 16 * n);
-    let mut r = s;
-    r.lfsr = l;
-    r.r1 = q1;
-    r.r2 = q2;
-    r.r3 = r3;
-    r
+    lanes::moved_to(s, l, &l1, &l2, 16 * n, r3)
 }
 
 // The state that a start leads to, and an answer: 0, or the refusal's number, and then the state is all zero.
@@ -213,7 +193,7 @@ pub fn lengths(key: &[u8], iv: &[u8]) -> u64
     scope::ACCEPTED
 }
 
-// As `start`, with the table of the round lent.
+// As `start`, with the table of the rounds lent.
 pub fn start_with(key: &[u8], iv: &[u8], mode: Mode, rounds: &[u32; 256]) -> Started
     requires { ⌜ Holds wide (now rounds) ⌝ }
     ensures { λ r. ⌜ Starts (now (key .entry)) (now (iv .entry)) (modeOf mode) r ⌝ }
@@ -312,12 +292,6 @@ fn loads(s: State, low: Block, high: Block, mode: Mode) -> bool
         & words::same(r3, zero)
 }
 
-fn word64(lo: u32, hi: u32) -> u64
-    ensures { λ r. ⌜ little 8 r ≡ little 4 lo ++ little 4 hi ⌝ }
-{
-    lo as u64 + hi as u64 * 0x100000000
-}
-
 // Where a state comes from: the IV's bytes 0 to 7 and 8 to 15, low byte first, and the mode.
 pub struct Origin {
     pub lo: u64,
@@ -334,8 +308,8 @@ fn found(iv: Block, mode: Mode) -> Traced
     ensures { λ r. ⌜ tracedOf r ≡ Leads.Traced.origin (bytesOf iv) (modeOf mode) ⌝ }
 {
     Traced::Found(Origin {
-        lo: word64(iv.w0, iv.w1),
-        hi: word64(iv.w2, iv.w3),
+        lo: words::join(iv.w0, iv.w1),
+        hi: words::join(iv.w2, iv.w3),
         mode: mode,
     })
 }

@@ -5,9 +5,11 @@ use Prim.Native.Nat.{ℕ, _*_, _≤_, _<_}
 use native.Mathlib.Omega.{arith}
 use borrow.Author.Tests.{eq-eqb, ne-eqb, lt-ltb, le-ltb}
 use lib.ListN.{length, drop}
+use lib.Seq.{sets}
+use Rattle.words.proofs.Writing.{put-front}
 use Rattle.scope.specs.Limits.{most-blocks}
 use Rattle.cipher.specs.Registers.{Registers, IsRegisters}
-use Rattle.cipher.specs.Run.{forward, blocks, run-number, run-part}
+use Rattle.cipher.specs.Run.{forward, blocks}
 use Rattle.cipher.proofs.Moves.{blocks-length}
 use Rattle.start.specs.Start.{Mode, start-number}
 use Rattle.start.specs.Leads.{Traced, Traced.origin, Traced.refused}
@@ -31,21 +33,10 @@ module _ (key iv out : List ℕ) {n : ℕ} (e : n ≡ start-number key iv) where
     unfolding keystream-answer
     keystream-right h = rw (← e, z, le-ltb most-blocks (fitting out) h)
 
--- a run of all whole blocks that fit is never refused for room
-module _ (s : Registers) (g : IsRegisters s) (out : List ℕ) (h : fitting out ≤ most-blocks) where
-  fits : run-number (length out) (fitting out) ≡ 0
-  unfolding run-number
-  fits = rw (le-ltb most-blocks (fitting out) h, le-ltb (length out) (16 * fitting out) (omega arith))
-
-  part : run-part forward s (length out) (fitting out) ≡ blocks forward (fitting out) s
-  unfolding run-part
-  part = rw fits
-
-  pub run-fills : (w : ℕ) (o : List ℕ) → w ≡ length (run-part forward s (length out) (fitting out))
-      → o ≡ run-part forward s (length out) (fitting out) ++ drop w out → o ≡ blocks forward (fitting out) s ++ drop (16 * fitting out) out
-  run-fills w o ew eo =
-      let k : w ≡ 16 * fitting out = ew ∙ ap length part ∙ blocks-length forward (fitting out) s g in
-      eo ∙ ap (λ (l : List ℕ). l ++ drop w out) part ∙ ap (λ (j : ℕ). blocks forward (fitting out) s ++ drop j out) k
+-- all whole blocks that fit, at the front
+pub run-fills : (s : Registers) → IsRegisters s → (out o : List ℕ) → o ≡ sets out 0 (blocks forward (fitting out) s)
+    → o ≡ blocks forward (fitting out) s ++ drop (16 * fitting out) out
+run-fills s g out o e = e ∙ put-front out (blocks forward (fitting out) s) (16 * fitting out) (blocks-length forward (fitting out) s g) (omega arith)
 
 -- ---- trace
 

@@ -19,6 +19,7 @@ ghost use Rattle.tulvekas.specs.Pages.{seal-answer, seal-writes, seal-wr
 ghost use Rattle.tulvekas.specs.Sessions.{is-session, begin-answer, begin-leaves, data-answer, data-leaves, text-answer, text-leaves, text-writes, finish-answer, finish-leaves, finish-writes, suspend-answer, suspend-writes, resume-answer, resume-leaves, resume-writes};
 ghost use Rattle.tulvekas.specs.Cipher.{mode-named, keystream-answer, keystream-writes, trace-of-bytes, mode-byte, trace-answer, trace-iv, trace-sealed};
 ghost use Rattle.tulvekas.specs.Keeping.{kept-answer, kept-byte};
+use cipher::lanes;
 use ghash::Element;
 use retention::Verdict;
 use session::Session;
@@ -321,10 +322,10 @@ pub extern "C" fn tulvekas_keystream(key: &[u8], iv: &[u8], sealed: u64, out: &m
     if blocks as u64 > scope::MOST_BLOCKS {
         return scope::COUNT_TOO_HIGH;
     }
-    let t = start::start(key, iv, mode_named(sealed));
+    let rounds = wide_round::table();
+    let t = start::start_with(key, iv, mode_named(sealed), &rounds);
     let s = t.state;
-    let mut answer: u64 = 0;
-    cipher::run_core(s, &mut answer, out, blocks, false);
+    lanes::run_forward(s, &rounds, out, blocks);
     scope::ACCEPTED
 }
 

@@ -74,7 +74,7 @@ fn after_step(s: State, low: Block, step: usize) -> State {
     s
 }
 
-// The z of each of the 16 steps of a start in plain mode.
+// The z of each of the 16 steps of a start in plain mode: that of the step, from where the start's own loop leads to.
 fn initialisation(key: [u8; 32], iv: [u8; 16]) -> [u8; 256] {
     let rounds = wide_round::table();
     let low = words::load(&key, 0);
@@ -83,12 +83,11 @@ fn initialisation(key: [u8; 32], iv: [u8; 16]) -> [u8; 256] {
     let mut s = start::load(low, high, words::load(&iv, 0), Mode::Plain);
     let mut i = 0;
     while i < 16 {
-        let w = start::initial(s, &rounds);
-        let t = w.state;
+        let w = step(s, false);
         let z = w.z;
-        words::store(&mut out, 16 * i, z);
+        words::store(&mut out, 16 * i, block(z));
         i += 1;
-        let u = after_step(t, low, i);
+        let u = after_step(start::initials(s, 1, &rounds), low, i);
         s = u;
     }
     out

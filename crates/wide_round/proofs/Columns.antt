@@ -6,14 +6,14 @@ use Prim.Native.Nat.{ℕ, _+_, _*_, _/_, _%_, _^_, _<_, _≤_}
 use native.Mathlib.Omega.{arith}
 use native.Mathlib.Nat.{add-comm, mul-comm, zero-add, mod-eq-of-lt, div-eq-of-lt, add-mul-div-left, add-mul-mod-self-left}
 use lib.Dec.{lit<}
-use lib.ListN.{length, getD, drop, length-take, length-drop}
-use lib.Seq.{getD-take, getD-drop}
+use lib.ListN.{length, getD}
 use Rattle.words.specs.Xor.{_⊕_, xors}
 use Rattle.words.specs.Bytes.{little, number, littles, part, Row}
 use Rattle.words.specs.Machine.{bytesOf}
 use Rattle.words.specs.declared.Block.{Block}
 use Rattle.words.proofs.XorLaws.{xor}
 use Rattle.words.proofs.Rows.{row-append, tab-all}
+use Rattle.words.proofs.Parts.{part-long, part-at}
 use Rattle.words.proofs.Bytes.{number-append, number-lt, little-number, little-xor}
 use Rattle.words.proofs.Blocks.{four}
 use Rattle.aes.specs.Field.{gmul, sub}
@@ -97,12 +97,9 @@ unfolding bytesOf littles round gathered mixBy
 of-block v e y p q r s = (λ i. p i ++ (q i ++ (r i ++ (s i ++ [])))) ∙ ap round (tab-all 16 v e)
 
 module _ (s : List ℕ) (at : ℕ) (h : at + 16 ≤ length s) where
-  here : (i : ℕ) → i < 16 → getD s (at + i) 0 ≡ getD (part at 16 s) i 0
-  here i l = sym (getD-take 16 (drop at s) i 0 l ∙ getD-drop at s i 0)
-
   moved : (i j k l w : ℕ) → i < 16 → j < 16 → k < 16 → l < 16
       → Column s (at + i) (at + j) (at + k) (at + l) w → Column (part at 16 s) i j k l w
-  moved i j k l w hi hj hk hl p = p ∙ ap (λ (t : List ℕ). mixColumns (subBytes t)) (four (here i hi) (here j hj) (here k hk) (here l hl))
+  moved i j k l w hi hj hk hl p = p ∙ ap (λ (t : List ℕ). mixColumns (subBytes t)) (four (part-at s at 16 i hi) (part-at s at 16 j hj) (part-at s at 16 k hk) (part-at s at 16 l hl))
 
   pub is-round : (y : Block)
       → Column s at (at + 5) (at + 10) (at + 15) (y .w0) → Column s (at + 4) (at + 9) (at + 14) (at + 3) (y .w1)
@@ -110,7 +107,7 @@ module _ (s : List ℕ) (at : ℕ) (h : at + 16 ≤ length s) where
       → bytesOf y ≡ round (part at 16 s)
   is-round y p q r t =
       let z : at + 0 ≡ at = omega arith in
-      of-block (part at 16 s) (simp (length-take, length-drop) (omega arith)) y
+      of-block (part at 16 s) (part-long s at 16 h) y
       (moved 0 5 10 15 (y .w0) (lit< tt) (lit< tt) (lit< tt) (lit< tt) (rw z p))
       (moved 4 9 14 3 (y .w1) (lit< tt) (lit< tt) (lit< tt) (lit< tt) q)
       (moved 8 13 2 7 (y .w2) (lit< tt) (lit< tt) (lit< tt) (lit< tt) r)

@@ -22,7 +22,8 @@ pub fn table() -> [u32; 256]
     WIDE
 }
 
-// A column of the round: the entries at four bytes, the second turned by one place, the third by two, the fourth by three.
+// A column of the round: the entries at four bytes, of which the second has its top byte moved to the bottom, the third its top two, the fourth its
+// top three.
 fn column(t: &[u32; 256], a: u8, b: u8, c: u8, d: u8) -> u32
     requires { ⌜ Holds wide (now t) ⌝ }
     ensures { λ r. ⌜ little 4 r ≡ mixColumns (subBytes (a ∷ b ∷ c ∷ d ∷ [])) ⌝ }

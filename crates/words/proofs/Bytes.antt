@@ -4,7 +4,7 @@ use mathlib.Core.Path.{_≡_, refl, sym, ap, ap₂, subst, _∙_}
 use mathlib.Core.List.{List, [], _∷_, _++_, append-assoc}
 use Prim.Native.Nat.{ℕ, zero, suc, _+_, _-_, _*_, _/_, _%_, _^_, _<_, _≤_}
 use native.Mathlib.Omega.{arith}
-use native.Mathlib.Nat.{mod-lt, mul-assoc, pow-succ'}
+use native.Mathlib.Nat.{mod-lt, mul-comm, mul-assoc, pow-succ'}
 use lib.Dec.{lit<}
 use lib.ListN.{length, take, drop, length-append, length-drop, take-append-drop}
 use lib.Seq.{take-at, drop-at, take-append-le, drop-append-le}
@@ -161,3 +161,7 @@ little-join k x y hx hy =
     ∙ ap₂ (λ (u v : ℕ). u + 256 ^ length (little k x) * v) (number-little k x hx) (number-little k y hy)
     ∙ ap (λ (l : ℕ). x + 256 ^ l * y) (little-long k x) in
     ap (little (k + k)) (sym n) ∙ little-number (k + k) (little k x ++ little k y) (row-append 256 k k (little-row k x) (little-row k y))
+
+-- two words
+pub little-pair : (a b : ℕ) → a < 2 ^ 32 → b < 2 ^ 32 → little 8 (a + b * 0x100000000) ≡ little 4 a ++ little 4 b
+little-pair a b ha hb = ap (λ (n : ℕ). little 8 (a + n)) (mul-comm b 0x100000000) ∙ little-join 4 a b ha hb

@@ -4,7 +4,7 @@ use mathlib.Core.List.{List, [], _∷_, _++_}
 use Prim.Native.Nat.{ℕ, zero, suc, _+_, _-_, _≤_, _<_}
 use native.Mathlib.Omega.{arith}
 use lib.ListN.{length, take, drop, getD, length-take, length-drop}
-use lib.Seq.{take-at, drop-at, drop-cons, drop-drop, take-take, take-add}
+use lib.Seq.{getD-take, getD-drop, take-at, drop-at, drop-cons, drop-drop, take-take, take-add}
 use Rattle.words.specs.Bytes.{part, joined, Row}
 use Rattle.words.proofs.Rows.{row-take, row-drop}
 
@@ -33,6 +33,10 @@ part-front s at k = drop-take at (at + k) s (omega arith) ∙ ap (λ (n : ℕ). 
 
 pub part-long : (s : List ℕ) (at k : ℕ) → at + k ≤ length s → length (part at k s) ≡ k
 part-long s at k h = simp (length-take, length-drop) (omega arith)
+
+-- what stands at a place of it
+pub part-at : (s : List ℕ) (at k i : ℕ) → i < k → getD s (at + i) 0 ≡ getD (part at k s) i 0
+part-at s at k i h = sym (getD-take k (drop at s) i 0 h ∙ getD-drop at s i 0)
 
 -- a longer part
 pub part-more : (s : List ℕ) (at k m : ℕ) → part at (k + m) s ≡ part at k s ++ part (at + k) m s

@@ -1,12 +1,12 @@
 -- Runs of stores one behind the other, and the loops that write: what is left to write, written behind what stands there, makes the whole.
 -- Copying, hex digits from bytes and bytes from hex digits are one loop at three functions.
-use mathlib.Core.Path.{_≡_, refl, sym, ap, ap₂, _∙_}
+use mathlib.Core.Path.{_≡_, refl, sym, ap, _∙_}
 use mathlib.Core.List.{List, [], _∷_, _++_, append-nil, append-assoc}
 use Prim.Native.Nat.{ℕ, suc, _+_, _-_, _/_, _%_, _≤_, _<_}
 use native.Mathlib.Omega.{arith}
 use native.Mathlib.Numerals.{add-one}
 use lib.ListN.{length, getD, set, take, drop, drop-of-length-le, length-append}
-use lib.Seq.{sets, length-sets, sets-eq, slice, slice-cons, slice-empty, take-at, drop-at, drop-length, take-set-le, drop-set-lt, length-take-le}
+use lib.Seq.{sets, length-sets, sets-eq, slice, slice-cons, slice-empty, take-at, drop-at, drop-length, take-set-le, length-take-le}
 use Rattle.words.specs.Bytes.{little, part}
 use Rattle.words.proofs.Rows.{sets-append}
 use Rattle.words.proofs.Parts.{part-front}
@@ -44,22 +44,6 @@ put-end q s k to = rw (slice-empty to s)
 take-sets : (n : ℕ) (l : List ℕ) (i : ℕ) (vs : List ℕ) → n ≤ i → take n (sets l i vs) ≡ take n l
 take-sets n l i [] h = refl
 take-sets n l i (v ∷ vs) h = take-sets n (set l i v) (suc i) vs (omega arith) ∙ take-set-le n l i v h
-
-drop-sets : (n : ℕ) (l : List ℕ) (i : ℕ) (vs : List ℕ) → i + length vs ≤ n → drop n (sets l i vs) ≡ drop n l
-drop-sets n l i [] h = refl
-drop-sets n l i (v ∷ vs) h = drop-sets n (set l i v) (suc i) vs (omega arith) ∙ drop-set-lt n l i v (omega arith)
-
--- what is written further back does not change a part
-pub read-behind : (l : List ℕ) (at k i : ℕ) (vs : List ℕ) → i + length vs ≤ at → part at k (sets l i vs) ≡ part at k l
-read-behind l at k i vs h = ap (take k) (drop-sets at l i vs h)
-
--- a second run in the place of the first
-pub sets-over : (l v w : List ℕ) (i : ℕ) → length v ≡ length w → i + length w ≤ length l → sets (sets l i v) i w ≡ sets l i w
-sets-over l v w i e h =
-    let n = length-sets l i v in
-    sets-eq w (sets l i v) i (omega arith)
-    ∙ ap₂ (λ (x y : List ℕ). x ++ w ++ y) (take-sets i l i v (omega arith)) (drop-sets (i + length w) l i v (omega arith))
-    ∙ sym (sets-eq w l i h)
 
 -- what is written further on does not change a part
 pub read-before : (l : List ℕ) (at k i : ℕ) (vs : List ℕ) → at + k ≤ i → part at k (sets l i vs) ≡ part at k l

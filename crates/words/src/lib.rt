@@ -1,5 +1,6 @@
 // Blocks of 16 bytes as four words of 32 bits, low byte first: read, written, compared, added, subtracted and xored.
 ghost use mathlib.Core.Path.{_≡_};
+ghost use mathlib.Core.List.{_++_};
 ghost use Prim.Native.Nat.{_+_, _<_, _≤_};
 ghost use lib.ListN.{length};
 ghost use lib.Seq.{sets};
@@ -71,7 +72,7 @@ pub fn same(x: Block, y: Block) -> bool
 }
 
 // A byte as a word. A cast of an element of a slice would ask for its size.
-pub fn wide(x: u8) -> u32
+pub fn word_of(x: u8) -> u32
     ensures { λ r. ⌜ (r ≡ x) × (r < 256) ⌝ }
 {
     x as u32
@@ -82,7 +83,17 @@ fn load_word(p: &[u8], at: usize) -> u32
     requires { ⌜ at + 4 ≤ length (now p) ⌝ }
     ensures { λ r. ⌜ r ≡ number (part at 4 (now (p .entry))) ⌝ }
 {
-    wide(p[at]) + wide(p[at + 1]) * 0x100 + wide(p[at + 2]) * 0x10000 + wide(p[at + 3]) * 0x1000000
+    word_of(p[at])
+        + word_of(p[at + 1]) * 0x100
+        + word_of(p[at + 2]) * 0x10000
+        + word_of(p[at + 3]) * 0x1000000
+}
+
+// Two words as a number of 64 bits, the low one first.
+pub fn join(lo: u32, hi: u32) -> u64
+    ensures { λ r. ⌜ little 8 r ≡ little 4 lo ++ little 4 hi ⌝ }
+{
+    lo as u64 + hi as u64 * 0x100000000
 }
 
 // The block at a place of a slice.

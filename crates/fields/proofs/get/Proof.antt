@@ -28,7 +28,7 @@ mul-n c = record { fits = lt-of-le-of-lt (le-add-right _ 0) (few-lt (c .before .
 add-n : tie.Need-add-n Inv-loop μ-loop
 add-n c =
     let l = c .before .before .before .loop in
-    record { fits = few-lt (l .n) _ _ (l .inv .2) (c .wide .ensures .1) (omega arith) }
+    record { fits = few-lt (l .n) _ _ (l .inv .2) (c .word-of .ensures .1) (omega arith) }
 
 loop-again : tie.Need-loop-again Inv-loop μ-loop
 loop-again c =
@@ -36,8 +36,8 @@ loop-again c =
     let a = c .before .before .before .before .before .args in
     let e : a .k - (l .i - 1) ≡ a .k - l .i + 1 = omega arith in (
       omega arith,
-      get-more (a .s .now) (a .at) (a .k) (l .i) (l .n) _ (omega arith) (omega arith) (omega arith) (l .inv .1) (c .wide .ensures .0),
-      rw e (more-lt (l .n) _ _ (l .inv .2) (c .wide .ensures .1)),
+      get-more (a .s .now) (a .at) (a .k) (l .i) (l .n) _ (omega arith) (omega arith) (omega arith) (l .inv .1) (c .word-of .ensures .0),
+      rw e (more-lt (l .n) _ _ (l .inv .2) (c .word-of .ensures .1)),
     )
 
 returns : tie.Need-returns Inv-loop μ-loop

@@ -12,7 +12,7 @@ use Rattle.start.proofs.found.Tie as tie
 returns : tie.Need-returns
 returns c =
     let a = c .before .before .args in
-    ap (λ (l : List ℕ). origin l (modeOf (a .mode))) (halves-bytes (a .iv) _ _ (c .before .word64 .ensures) (c .word642 .ensures))
+    ap (λ (l : List ℕ). origin l (modeOf (a .mode))) (halves-bytes (a .iv) _ _ (c .before .join .ensures) (c .join2 .ensures))
 
 pub found-spec : {M : Type 1} → statement M
 found-spec = tie.close (tie.spec (λ c κs. search needs) (λ c κs. search needs) returns)

@@ -14,9 +14,9 @@ use Rattle.cipher.specs.Registers.{IsRegisters}
 use Rattle.cipher.specs.Step.{sigma}
 use Rattle.cipher.specs.Machine.{registersOf}
 use Rattle.cipher.proofs.Typed.{every-state}
-use Rattle.cipher.proofs.Standing.{Turned, standing-first}
+use Rattle.cipher.proofs.Standing.{Turned, standing-first, standing-read}
 use Rattle.start.specs.Start.{initials}
-use Rattle.start.proofs.Feeding.{Fed, fed-more, fed-ends}
+use Rattle.start.proofs.Feeding.{Fed, fed-more}
 use borrow.Author.Needs.{needs}
 use Rattle.start.proofs.initials.Statement.{statement}
 use Rattle.start.proofs.initials.Tie as tie
@@ -153,12 +153,12 @@ loop-again c =
 
 returns : tie.Need-returns Inv-loop μ-loop
 returns c =
-    let l = c .before .before .before .before .before in
+    let l = c .before .before .before .before in
     let s = begun l in
     let S = registersOf (s .args .s) in
-    let e : l .loop .i ≡ s .args .n = omega (arith, l .loop .inv .0, c .before .before .before .before .loop-test .left) in
-    fed-ends S _ (s .args .n) (subst (λ (k : ℕ). Fed S k (l .loop .l1) (l .loop .l2) (bytesOf (l .loop .r3)) (lfsrOf (l .loop .l))) e (l .loop .inv .1))
-    refl (c .before .before .load .ensures) (c .load2 .ensures) refl
+    let e : l .loop .i ≡ s .args .n = omega (arith, l .loop .inv .0, c .before .before .before .loop-test .left) in
+    let f = subst (λ (k : ℕ). Fed S k (l .loop .l1) (l .loop .l2) (bytesOf (l .loop .r3)) (lfsrOf (l .loop .l))) e (l .loop .inv .1) in
+    c .moved-to .ensures ∙ standing-read _ (f .stands) (f .lfsr)
 
 pub initials-spec : {M : Type 1} → statement M
 initials-spec =
@@ -194,8 +194,6 @@ initials-spec =
     loop-less
     loop-again
     (λ c. search needs)
-    (λ c. search needs)
-    (λ c κs. search needs)
     (λ c. search needs)
     (λ c. search needs)
     (λ c κs. search needs)

@@ -1,4 +1,4 @@
--- `tulvekas::tulvekas_keystream` meets its contract, by the lengths and the count: a run of as many whole blocks as fit is not refused for room.
+-- `tulvekas::tulvekas_keystream` meets its contract, by the lengths and the count: as many whole blocks as fit have room.
 use Prim.Native.Nat.{_*_}
 use mathlib.Core.Path.{_≡_, sym, ap, _∙_}
 use mathlib.Core.List.{_++_}
@@ -16,8 +16,8 @@ use borrow.Author.Needs.{needs}
 use Rattle.tulvekas.proofs.tulvekas_keystream.Statement.{statement}
 use Rattle.tulvekas.proofs.tulvekas_keystream.Tie as tie
 
-good : (c : tie.After-start) → IsRegisters (registersOf (c .start .result .state))
-good c = every-state (c .start .result .state) _ (c .start .ok .1 .1 .1 .0)
+good : (c : tie.After-start-with) → IsRegisters (registersOf (c .start-with .result .state))
+good c = every-state (c .start-with .result .state) _ (c .start-with .ok .1 .1 .1 .0)
 
 returns : tie.Need-returns
 returns c =
@@ -39,8 +39,8 @@ returns-3 : tie.Need-returns-3
 returns-3 c =
     let r = c .before .before in
     let st = r .before .before .before .before in
-    let m = st .before in
-    let x = m .before in
+    let m = st .before .before in
+    let x = m .before .before in
     let l = x .before .before in
     let a = l .before .before .before .before .args in
     let key = now (a .key) in
@@ -48,10 +48,10 @@ returns-3 c =
     let out = now (a .out) in
     let z = x .before .if1 .left in
     let e = keystream-right key iv out (l .lengths .ensures) z (x .if2 .left) in
-    let s : registersOf (st .start .result .state) ≡ start key iv (mode-named (a .sealed)) =
-    st .start .ensures .state ∙ sym (accepted (sym z ∙ l .lengths .ensures) _ _) ∙ ap (start key iv) (m .mode-named .ensures) in (
+    let s : registersOf (st .start-with .result .state) ≡ start key iv (mode-named (a .sealed)) =
+    st .start-with .ensures .state ∙ sym (accepted (sym z ∙ l .lengths .ensures) _ _) ∙ ap (start key iv) (m .mode-named .ensures) in (
       e,
-      run-fills (registersOf (st .start .result .state)) (good st) out (x .if2 .left) _ _ (r .run-core .ensures .1 .0) (r .run-core .ensures .1 .1 .1)
+      run-fills (registersOf (st .start-with .result .state)) (good st) out _ (r .run-forward .ensures .1)
           ∙ ap (λ (t : Registers). blocks forward (fitting out) t ++ drop (16 * fitting out) out) s
           ∙ accepted e (blocks forward (fitting out) (start key iv (mode-named (a .sealed))) ++ drop (16 * fitting out) out) out,
     )
@@ -63,6 +63,7 @@ tulvekas-keystream-spec =
     (λ c κs. search needs)
     returns
     returns-2
+    (λ c κs. search needs)
     (λ c κs. search needs)
     (λ c κs. search needs)
     (λ c κs. search needs)

@@ -8,8 +8,8 @@ use Rattle.words.proofs.load_word.Tie as tie
 returns : tie.Need-returns
 returns c =
     let a = c .before .before .before .before .before .before .before .before .before .args in
-    word-at (now (a .p)) (a .at) (search needs) _ _ _ _ (c .before .before .before .before .before .before .wide .ensures .0)
-    (c .before .before .before .before .wide2 .ensures .0) (c .before .before .wide3 .ensures .0) (c .wide4 .ensures .0)
+    word-at (now (a .p)) (a .at) (search needs) _ _ _ _ (c .before .before .before .before .before .before .word-of .ensures .0)
+    (c .before .before .before .before .word-of2 .ensures .0) (c .before .before .word-of3 .ensures .0) (c .word-of4 .ensures .0)
 
 pub load-word-spec : {M : Type 1} → statement M
 load-word-spec =

@@ -16,7 +16,7 @@ use Rattle.cipher.specs.Step.{sigma}
 use Rattle.cipher.specs.Machine.{registersOf}
 use Rattle.cipher.proofs.Typed.{every-state}
 use Rattle.cipher.proofs.Running.{Made, made-none, made-long, made-one, made-all}
-use Rattle.cipher.proofs.Standing.{Standing, Turned, standing-first, batch-z, batch-stands, batch-ends, next-moves}
+use Rattle.cipher.proofs.Standing.{Standing, Turned, standing-first, batch-z, batch-stands, standing-read, moves-lfsr, next-moves}
 use borrow.Author.Needs.{needs}
 use Rattle.cipher.proofs.lanes.batch.Statement.{statement}
 use Rattle.cipher.proofs.lanes.batch.Tie as tie
@@ -159,18 +159,19 @@ loop-again c =
 
 same-length : tie.Need-same-length Inv-loop μ-loop
 same-length c =
-    let l = c .before .before .before .before .before in
+    let l = c .before .before .before .before in
     let s = begun l in
     made-long forward (registersOf (s .args .s)) (good s) (now (s .args .out)) (s .args .from) (s .args .n) (l .loop .inv .0)
 
 returns : tie.Need-returns Inv-loop μ-loop
 returns c =
-    let l = c .before .before .before .before .before in
+    let l = c .before .before .before .before in
     let s = begun l in
     let S = registersOf (s .args .s) in
-    let e : l .loop .i ≡ s .args .n = omega (arith, l .loop .inv .0 .at-most, c .before .before .before .before .loop-test .left) in (
-      batch-ends S _ (s .args .n) (subst (λ (k : ℕ). Standing (moves forward k S) (16 * k) (l .loop .l1) (l .loop .l2) (bytesOf (l .loop .r3))) e (l .loop .inv .1))
-          (l .before .before .before .before .before .before .before .taps .ensures .0) (c .before .before .load .ensures) (c .load2 .ensures) refl,
+    let e : l .loop .i ≡ s .args .n = omega (arith, l .loop .inv .0 .at-most, c .before .before .before .loop-test .left) in (
+      c .moved-to .ensures
+          ∙ standing-read _ (subst (λ (k : ℕ). Standing (moves forward k S) (16 * k) (l .loop .l1) (l .loop .l2) (bytesOf (l .loop .r3))) e (l .loop .inv .1))
+          (l .before .before .before .before .before .before .before .taps .ensures .0 ∙ sym (moves-lfsr (s .args .n) S)),
       made-all forward S (good s) (now (s .args .out)) (s .args .from) (s .args .n) (omega arith) (l .loop .inv .0) .1,
     )
 
@@ -209,8 +210,6 @@ batch-spec =
     loop-less
     loop-again
     (λ c. search needs)
-    (λ c. search needs)
-    (λ c κs. search needs)
     (λ c. search needs)
     (λ c. search needs)
     (λ c κs. search needs)

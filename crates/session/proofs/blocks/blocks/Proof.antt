@@ -1,4 +1,5 @@
--- `session::blocks::blocks` meets its contract: after each batch the text that is left leads where the whole leads, from the session with the loop's track.
+-- `session::blocks::blocks` meets its contract: after each batch the session with the loop's track, the hash so far in it, and the output are those that the
+-- text up to there makes.
 use Prim.Native.Nat.{ℕ, _+_, _-_, _*_, _%_, _<_, _≤_}
 use mathlib.Core.Path.{_≡_, sym, ap, subst, _∙_}
 use native.Mathlib.Nat.{le-trans}
@@ -22,7 +23,7 @@ use Rattle.session.proofs.blocks.blocks.Tie as tie
 abbrev Inv-loop : tie.InvT-loop
 Inv-loop s piece out₀ from to rounds table h t₀ i₀ out t i =
     Going (sessionOf s) piece out₀ from to out (riding (sessionOf s) (trackOf t) (s .text + (i - from))) i
-    × (from ≤ i) × ((to - i) % 16 ≡ 0) × (length (t .held .pending) ≡ 16) × IsRegisters (registersOf (t .state))
+    × ((to - i) % 16 ≡ 0) × (length (t .held .pending) ≡ 16) × IsRegisters (registersOf (t .state))
 
 abbrev μ-loop : tie.MeasureT-loop
 μ-loop s piece out₀ from to rounds table h t₀ i₀ out t i = to - i
@@ -38,7 +39,6 @@ loop-holds c =
     let e : a .s .text ≡ a .s .text + (a .from - a .from) = omega arith in (
       subst (λ (n : ℕ). Going (sessionOf (a .s)) (now (a .piece)) (now (a .out)) (a .from) (a .to) (now (a .out)) (riding (sessionOf (a .s)) (trackOf (record { state = a .s .state; z = a .s .current; held = a .s .held })) n) (a .from)) e
           (none (sessionOf (a .s)) (now (a .piece)) (now (a .out)) (a .from) (a .to) (q .part .ordered)),
-      omega arith,
       q .whole,
       held-long start,
       every-state (a .s .state) _ (start .good .0 .1 .1 .1 .1 .1 .1 .1 .1 .1 .0),
@@ -50,7 +50,7 @@ left : (c : tie.After-at-most Inv-loop μ-loop) → let l = c .before .before .l
 left c =
     let l = c .before .before .loop in
     let h = c .before .loop-test .taken in
-    let e = l .inv .2 in
+    let e = l .inv .1 in
     let most = c .at-most .ensures .1 in
     let some = c .at-most .ensures .2 (omega arith) in
     (some, omega arith, omega arith)
@@ -89,18 +89,17 @@ loop-again c =
     let k = next .at-most .result in
     let n = a .s .text + (l .i - a .from) in
     let u = riding S (trackOf (l .t)) n in
-    let begins : n % 16 ≡ 0 = at-start (a .s .text) (a .from) (l .i) (a .to) (l .inv .1) (g .bound) (q .start) (q .whole) (l .inv .2) in
+    let begins : n % 16 ≡ 0 = at-start (a .s .text) (a .from) (l .i) (a .to) (g .since) (g .bound) (q .start) (q .whole) (l .inv .1) in
     let read : l .i + 16 * k ≤ length p = le-trans (left .1) (q .part .read) in
     let part = slice (l .i) (l .i + 16 * k) p in
     let long : length part ≡ 16 * k = length-slice (l .i) (l .i + 16 * k) p read ∙ omega arith in
-    let e : a .s .text + (l .i + 16 * k - a .from) ≡ n + 16 * k = omega (arith, l .inv .1) in (
+    let e : a .s .text + (l .i + 16 * k - a .from) ≡ n + 16 * k = omega (arith, g .since) in (
       more g _ _ (l .i + 16 * k) (omega arith) (left .1) (q .part .read)
-          (ap (riding S (trackOf (w .result))) e ∙ ap (λ (t : Track). riding S t (n + 16 * k)) (w .ensures .0) ∙ sym (whole-taken u (l .inv .4) begins k part long (left .0) (l .inv .3)))
-          (w .ensures .1 ∙ ap (sets (l .out) (l .i)) (sym (drawn-blocks u (l .inv .4) begins k part long .output))),
-      omega (arith, l .inv .1),
+          (ap (riding S (trackOf (w .result))) e ∙ ap (λ (t : Track). riding S t (n + 16 * k)) (w .ensures .0) ∙ sym (whole-taken u (l .inv .3) begins k part long (left .0) (l .inv .2)))
+          (w .ensures .1 ∙ ap (sets (l .out) (l .i)) (sym (drawn-blocks u (l .inv .3) begins k part long .output))),
       left .2,
       ap (λ (t : Track). length (t .sum .pending)) (w .ensures .0),
-      subst IsRegisters (ap (λ (t : Track). t .registers) (sym (w .ensures .0))) (moves-good forward k (registersOf (l .t .state)) (l .inv .4)),
+      subst IsRegisters (ap (λ (t : Track). t .registers) (sym (w .ensures .0))) (moves-good forward k (registersOf (l .t .state)) (l .inv .3)),
     )
 
 sub-r : tie.Need-sub-r Inv-loop μ-loop

@@ -8,7 +8,9 @@ use lib.ListN.{length}
 use lib.Seq.{slice, length-slice, take-all}
 use Rattle.words.specs.Machine.{bytesOf}
 use Rattle.ghash.specs.Hash.{eat}
+use Rattle.digest.specs.Sum.{Sum}
 use Rattle.session.specs.Machine.{sessionOf}
+use Rattle.session.specs.Inner.{counted}
 use Rattle.session.proofs.Going.{none, all-session, all-output}
 use Rattle.session.proofs.Made.{held-long, full-session, part-out}
 use Rattle.session.proofs.blocks.full.Statement.{statement}
@@ -49,7 +51,7 @@ absorb-requires c κs = c .before .before .before .before .before .before .befor
 
 returns-2 : tie.Need-returns-2
 returns-2 c =
-    let l = c .before in
+    let l = c .before .before in
     let h = l .before .before .before .before .before .before .before .before in
     let else1 = h .before .before in
     let start = else1 .before .before .before in
@@ -62,7 +64,8 @@ returns-2 c =
     let full : a .s .text % 16 + length part ≡ 16 = rw n (some else1 .1) in
     let k = pending-long h in
     let x : bytesOf (l .load .result) ≡ r .held .pending = l .load .ensures ∙ take-all 16 (r .held .pending) (omega arith) in (
-      full-session S r part (h .hold .ensures .0) z full _ (c .absorb .ensures ∙ ap (eat (S .h) (sessionOf r .sum .hash)) x),
+      ap (λ (y : Sum). counted (sessionOf r) (r .text) y) (c .fresh .ensures)
+          ∙ full-session S r part (h .hold .ensures .0) z full _ (c .before .absorb .ensures ∙ ap (eat (S .h) (sessionOf r .sum .hash)) x),
       part-out S r part (h .hold .ensures .0) z (omega arith) (now (a .out)) _ (a .from) (h .hold .ensures .1),
     )
 
@@ -75,5 +78,6 @@ full-spec =
     slice-aggregate-load
     load-requires
     absorb-requires
+    (λ c κs. search needs)
     (λ c. search needs)
     returns-2)

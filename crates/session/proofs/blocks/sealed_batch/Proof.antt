@@ -17,7 +17,7 @@ use Rattle.cipher.specs.Step.{sigma}
 use Rattle.cipher.specs.Run.{forward, moves}
 use Rattle.cipher.specs.Machine.{registersOf}
 use Rattle.cipher.proofs.Typed.{every-state}
-use Rattle.cipher.proofs.Standing.{Standing, Turned, standing-first, batch-z, batch-stands, batch-ends}
+use Rattle.cipher.proofs.Standing.{Standing, Turned, standing-first, batch-z, batch-stands, standing-read, moves-lfsr}
 use Rattle.digest.specs.Sum.{fresh}
 use Rattle.session.proofs.Whole.{Progress, progress-none, progress-more, progress-long}
 use borrow.Author.Needs.{needs}
@@ -210,12 +210,9 @@ returns c =
     let e : l .loop .i ≡ a .n = omega (arith, l .loop .inv .0 .at-most, c .before .before .before .before .loop-test .left) in
     let v = subst (λ (k : ℕ). Progress (bytesOfElement (a .h)) (bytesOfElement (a .t .held .acc)) (now (a .piece)) (now (a .out)) S (a .from) (a .n) k (bytesOfElement (l .loop .y)) (l .loop .out) (bytesOf (l .loop .z))) e (l .loop .inv .0) in
     let st = subst (λ (k : ℕ). Standing (moves forward k S) (16 * k) (l .loop .l1) (l .loop .l2) (bytesOf (l .loop .r3))) e (l .loop .inv .1) in
-    let some : a .n ≡ suc (a .n - 1) = omega (arith, s .pre .0) in (
-      (λ i. record {
-        registers = batch-ends S _ (a .n) st (l .before .before .before .before .before .before .before .taps .ensures .0) (c .before .before .load2 .ensures) (c .load3 .ensures) refl i;
-        current = v .last (a .n - 1) some i;
-        sum = fresh (v .hashed i);
-      }),
+    let some : a .n ≡ suc (a .n - 1) = omega (arith, s .pre .0) in
+    let m = c .before .moved-to .ensures ∙ standing-read _ st (l .before .before .before .before .before .before .before .taps .ensures .0 ∙ sym (moves-lfsr (a .n) S)) in (
+      (λ i. record { registers = m i; current = v .last (a .n - 1) some i; sum = (c .fresh .ensures ∙ ap fresh (v .hashed)) i }),
       v .written,
     )
 
@@ -261,9 +258,8 @@ sealed-batch-spec =
     loop-again
     (λ c. search needs)
     (λ c. search needs)
+    (λ c. search needs)
     (λ c κs. search needs)
-    (λ c. search needs)
-    (λ c. search needs)
     (λ c κs. search needs)
     same-length
     returns)

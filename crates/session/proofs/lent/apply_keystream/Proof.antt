@@ -1,6 +1,6 @@
 -- `session::lent::apply_keystream` meets its contract: batch by batch whole blocks are drawn and xored, and then the rest is xored with a block of its own.
 use Prim.Native.Nat.{ℕ, _+_, _-_, _*_, _/_, _%_, _^_, _≤_, _<_}
-use mathlib.Core.Path.{_≡_, refl, ap, _∙_}
+use mathlib.Core.Path.{_≡_, refl, sym, ap, _∙_}
 use mathlib.Core.List.{List}
 use native.Mathlib.Omega.{arith}
 use borrow.Author.Needs.{needs}
@@ -15,20 +15,20 @@ use Rattle.cipher.specs.Machine.{registersOf}
 use Rattle.cipher.proofs.Typed.{every-state}
 use Rattle.session.specs.Session.{Session}
 use Rattle.session.specs.Machine.{sessionOf}
-use Rattle.session.proofs.Streaming.{Streaming, begun, stream-blocks, stream-end, stream-done, drawn-xored}
+use Rattle.session.proofs.Streaming.{Streaming, begun, stream-blocks, stream-end, stream-done, under-drawn}
 use Rattle.session.proofs.lent.apply_keystream.Statement.{statement}
 use Rattle.session.proofs.lent.apply_keystream.Tie as tie
 
 abbrev Inv-loop : tie.InvT-loop
-Inv-loop input out₀ rounds n to state₀ i₀ out state i =
+Inv-loop input out₀ rounds n to state₀ key₀ i₀ out state key i =
     ((s : Session) → registersOf state₀ ≡ s .registers → IsRegisters (registersOf state₀) → s .text % 16 ≡ 0 → Streaming s input out₀ out (registersOf state) i)
-    × (i ≤ to) × (i % 16 ≡ 0)
+    × (i ≤ to) × (i % 16 ≡ 0) × (length key ≡ 256)
 
 abbrev μ-loop : tie.MeasureT-loop
-μ-loop input out₀ rounds n to state₀ i₀ out state i = to - i
+μ-loop input out₀ rounds n to state₀ key₀ i₀ out state key i = to - i
 
 loop-holds : tie.Need-loop-holds Inv-loop μ-loop
-loop-holds c = ((λ s e g h. begun s _ _ _ e g h), omega arith, refl)
+loop-holds c = ((λ s e g h. begun s _ _ _ e g h), omega arith, refl, refl)
 
 -- the session that is given is one of them
 given : (c : tie.At-loop Inv-loop μ-loop) → let a = c .before .before .before .before .args in Streaming (sessionOf (a .s)) (now (a .input)) (now (a .out)) (c .loop .out) (registersOf (c .loop .state)) (c .loop .i)
@@ -57,32 +57,49 @@ room c =
     let h = c .before .before .before .before .before .before .pre .1 in
     omega arith
 
-batch-requires : tie.Need-batch-requires Inv-loop μ-loop
-batch-requires c κs = (c .before .at-most .ensures .0, room (c .before), c .before .before .before .before .before .before .before .pre .2)
+slice-aggregate-batch : tie.Need-slice-aggregate-batch Inv-loop μ-loop
+slice-aggregate-batch c = sym (c .before .before .before .loop .inv .3)
 
-xor-in-requires : tie.Need-xor-in-requires Inv-loop μ-loop
-xor-in-requires c κs =
-    let next = c .before .before .before .before .before in
-    let l = next .before .before .loop in
-    let r = registersOf (l .state) in
-    let n : length (c .before .before .before .batch .last .1 .1 .0) ≡ length (l .out) =
-    ap length (c .before .before .before .batch .ensures .1) ∙ length-sets (l .out) (l .i) (blocks forward (next .at-most .result) r) in
-    let h = left next in
-    (omega (arith, h .0, h .1), omega (arith, n, room next, h .0))
+batch-requires : tie.Need-batch-requires Inv-loop μ-loop
+batch-requires c κs =
+    let h = c .before .at-most .ensures .0 in
+    let k = c .before .before .before .loop .inv .3 in
+    (h, omega arith, c .before .before .before .before .before .before .before .pre .2)
+
+-- the keystream's block keeps its length
+kept : (c : tie.After-batch Inv-loop μ-loop) → length (c .batch .last .1 .1 .0) ≡ 256
+kept c =
+    let l = c .before .before .before .before .loop in
+    ap length (c .batch .ensures .1) ∙ length-sets (l .key) 0 (blocks forward (c .before .before .at-most .result) (registersOf (l .state))) ∙ l .inv .3
+
+slice-aggregate-under-blocks : tie.Need-slice-aggregate-under-blocks Inv-loop μ-loop
+slice-aggregate-under-blocks c = sym (kept (c .before .before))
+
+under-blocks-requires : tie.Need-under-blocks-requires Inv-loop μ-loop
+under-blocks-requires c κs =
+    let b = c .before .before .before in
+    let next = b .before .before in
+    let k = next .at-most .ensures .0 in
+    let n = kept b in
+    let l = left next in
+    let r = room next in
+    (omega (arith, l .0, l .1), omega (arith, l .0, r), omega (arith, l .0))
 
 loop-again : tie.Need-loop-again Inv-loop μ-loop
 loop-again c =
-    let next = c .before .before .before .before .before .before .before .before in
+    let b = c .before .before .before .before .before .before in
+    let next = b .before .before in
     let l = next .before .before .loop in
-    let start = c .before .before .before .before .before .before .before .before .before .before .before .before .before .before in
+    let start = next .before .before .before .before .before .before in
     let p = now (start .args .input) in
     let k = next .at-most .result in
-    let w = c .before .before .before .before .before .before .batch .ensures in
+    let w = b .batch .ensures in
     let g = given (next .before .before) in
     let h = left next in
     let read : l .i + 16 * k ≤ length p = omega (arith, h .1) in
-    let eo = drawn-xored p (l .out) (registersOf (l .state)) (l .i) k (g .good) read (room next) (w .1) (c .before .before .xor-in .ensures) in
-    ((λ s e q z. stream-blocks (l .inv .0 s e q z) _ k read eo _ (w .0)), h .1, omega (arith, l .inv .2))
+    let fits : 16 * k ≤ length (l .key) = omega (arith, next .at-most .ensures .0, l .inv .3) in
+    let eo = under-drawn p (l .out) (l .key) (registersOf (l .state)) (l .i) k (g .good) fits (w .1) (c .before .before .under-blocks .ensures) in
+    ((λ s e q z. stream-blocks (l .inv .0 s e q z) _ k read eo _ (w .0)), h .1, omega (arith, l .inv .2), kept b)
 
 under-requires : tie.Need-under-requires Inv-loop μ-loop
 under-requires c κs =
@@ -129,8 +146,10 @@ apply-keystream-spec =
     loop-holds
     (λ c. search needs)
     (λ c κs. search needs)
+    slice-aggregate-batch
     batch-requires
-    xor-in-requires
+    slice-aggregate-under-blocks
+    under-blocks-requires
     (λ c. omega (arith, c .before .before .before .before .before .before .before .before .at-most .ensures .0))
     (λ c. omega (arith, left (c .before .before .before .before .before .before .before .before) .1, short (c .before .before .before .before .before .before .before .before .before .before .before .before)))
     (λ c. let k = left (c .before .before .before .before .before .before .before .before) in omega (arith, k .0, k .1))
