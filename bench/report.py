@@ -1,5 +1,5 @@
 #!/usr/bin/env python3
-"""Makes table.md and chart.svg of the results.csv and processes.csv in a directory, and prints the table.
+"""Makes table.md and chart.svg of the results.csv, processes.csv and against.csv in a directory, and prints the table.
 
     report.py DIRECTORY [DOCUMENT]
 
@@ -16,9 +16,6 @@ from pathlib import Path
 OURS, SAME, PORTABLE = "tulvekas", "same in C", "portable C"
 AES, AES_MASKED = "AES-256-GCM", "AES-256-GCM masked"
 MIB = 1048576
-
-# The library and the C go back by one algorithm: from run to run trace takes 0.95 to 1.08 of C's time, and resuming 0.94 to 1.06.
-BACK = 1.1
 
 
 def read(path):
@@ -49,8 +46,18 @@ def read_processes(path):
     return rows
 
 
+def read_against(path):
+    """{(task, size): (ns before, ns, instructions before, instructions)}; nothing where there is no such file."""
+    rows = {}
+    if path.exists():
+        with open(path) as f:
+            for task, size, *figures in list(csv.reader(f))[1:]:
+                rows[(task, int(size))] = tuple(map(float, figures))
+    return rows
+
+
 def ratios(row, above, below):
-    """Of each process, in order."""
+    """Of each process, from the smallest."""
     return sorted(a / b for a, b in zip(row[above], row[below]))
 
 
@@ -82,21 +89,34 @@ def markdown(head, body):
     yield ""
 
 
-def goals(rows, processes):
-    """What was asked, the figure, and whether it is reached; figures of peers that are missing are left out."""
+def goals(rows, processes, against):
+    """What was asked, the figure, and whether it is reached; figures that are missing are left out."""
     def ratio(row, above, below):
         at = rows[row]
         return at[above][0] / at[below][0] if above in at and below in at else None
 
-    keystream, seal, trace, resume = ("keystream", MIB), ("seal", MIB), ("trace", 65538), ("resume", 65538)
+    def block(row):
+        return against[row][3] / (MIB / 16) if row in against else None
+
+    def long(row):
+        return against[row][1] / against[row][0] if row in against else None
+
+    def many(row):
+        return against[row][3] / against[row][2] if row in against else None
+
+    keystream, seal = ("keystream", MIB), ("seal", MIB)
     asked = [
         ("keystream of 1 MiB as fast as the portable C", ratio(keystream, PORTABLE, OURS), "at least", 3),
         ("sealing 1 MiB as fast as the portable C", ratio(seal, PORTABLE, OURS), "at least", 45),
         ("sealing 1 MiB as fast as OpenSSL's AES-256-GCM, masked", ratio(seal, AES_MASKED, OURS), "at least", 2.5),
         ("keystream of 1 MiB takes as long as the same algorithms in C", ratio(keystream, OURS, SAME), "at most", 1.15),
         ("sealing 1 MiB takes as long as the same algorithms in C", ratio(seal, OURS, SAME), "at most", 1.15),
-        ("trace of 65,538 blocks takes as long as the same algorithms in C", ratio(trace, OURS, SAME), "at most", BACK),
-        ("resuming after 65,538 blocks takes as long as the same algorithms in C", ratio(resume, OURS, SAME), "at most", BACK),
+        ("keystream, instructions a block", block(keystream), "at most", 240),
+        ("sealing, instructions a block", block(seal), "at most", 430),
+        ("a page of 64 bytes takes as long as before", long(("seal", 64)), "at most", 0.75),
+        ("a page of 474 bytes takes as long as before", long(("seal", 474)), "at most", 0.75),
+        ("a start takes as long as before", long(("start", 0)), "at most", 0.6),
+        ("trace of 65,538 blocks takes as many instructions as before", many(("trace", 65538)), "at most", 1),
     ]
     if keystream in processes:
         median = statistics.median(ratios(processes[keystream], PORTABLE, OURS))
@@ -120,12 +140,22 @@ def each(processes):
                 yield ""
 
 
+def beside(against):
+    """The library beside the one before."""
+    if not against:
+        return
+    yield "The library beside the one before request S-7, in one process, in alternating rounds, and the instructions of a call of both:"
+    yield ""
+    yield from markdown(["", "before", "now", "now over before", "instructions before", "now"], [
+        [label(row), time(old), time(new), f"{new / old:.2f}", f"{count:,.0f}", f"{now:,.0f}"] for row, (old, new, count, now) in against.items()])
+
+
 def compared(rows):
     """The rows that more than one implementation has."""
     return [row for row in rows if len(rows[row]) > 1]
 
 
-def table(said, peers, rows, processes):
+def table(said, peers, rows, processes, against):
     shown = compared(rows)
     yield "How long a call takes, best of " + said["rounds"] + " rounds:"
     yield ""
@@ -139,10 +169,11 @@ def table(said, peers, rows, processes):
     yield ""
     yield from markdown([""] + peers, [
         [task] + [f"{1e9 / rows[(task, MIB)][p][0]:.0f}" if p in rows[(task, MIB)] else "-" for p in peers] for task in ("keystream", "seal")])
+    yield from beside(against)
     yield "What was asked:"
     yield ""
-    yield from markdown(["", "times", "asked", "reached"], [
-        [what, f"{figure:.3f}" if figure < 10 else f"{figure:.1f}", asked, reached] for what, figure, asked, reached in goals(rows, processes)])
+    yield from markdown(["", "figure", "asked", "reached"], [
+        [what, f"{figure:.3f}" if figure < 10 else f"{figure:.1f}", asked, reached] for what, figure, asked, reached in goals(rows, processes, against)])
     yield from each(processes)
     spread = sorted(median / best for row in rows.values() for best, median in row.values())
     yield f"All calls of the library ran on a thread with a stack of 64 KiB and wrote {said['stack'].split()[0]} bytes of it."
@@ -209,7 +240,7 @@ def chart(peers, rows):
 def main():
     results = Path(sys.argv[1])
     said, peers, rows = read(results / "results.csv")
-    text = "\n".join(table(said, peers, rows, read_processes(results / "processes.csv"))) + "\n"
+    text = "\n".join(table(said, peers, rows, read_processes(results / "processes.csv"), read_against(results / "against.csv"))) + "\n"
     (results / "table.md").write_text(text)
     (results / "chart.svg").write_text("\n".join(chart(peers, rows)) + "\n")
     print(text, end="")

@@ -2,8 +2,8 @@
  * registers clocked up to 16 steps ahead, with T1 and T2 left in lanes of cells; R1 and R2 in lanes of bytes, which the AES round looks up in
  * a table of words; GHASH by H's multiples by every four bits at each of 32 places, looked up by bytes in the loop of the steps; a page as begin,
  * data, text and tag over one table of H. The way back goes a step at a time, by the inverse S-box of bytes. Structs go by pointer, as C does it,
- * and the table of words and the inverse S-box are static. What a call here leaves out of its Rattle counterpart is the test of its arguments'
- * lengths. */
+ * and the table of words and the inverse S-box are static. What a call here leaves out of its Rattle counterpart are the tests of its arguments'
+ * lengths and the clearing of its arrays. */
 
 #include "same.h"
 
@@ -286,9 +286,9 @@ static void batch(struct state *s, u8 *out, size_t n)
     memcpy(r3, s->r3, sizeof r3);
     for (size_t at = 0; at < 16 * n; at += 16) {
         next_r1(n1, l2 + at, r3, t2 + at / 2);
+        store(l1 + at + 16, n1);
         round_at(n2, l1 + at);
         round_at(r3, l2 + at);
-        store(l1 + at + 16, n1);
         store(l2 + at + 16, n2);
         output(z, l1 + at, l2 + at, t1 + at / 2);
         store(out + at, z);
@@ -360,15 +360,7 @@ static inline void fed(struct lfsr *l, const u32 z[4])
     to_cells(l->a + 8, x);
 }
 
-/* One of the 16 steps of a start. */
-static void initial(struct state *s)
-{
-    u32 z[4];
-    forward(s, z);
-    fed(&s->lfsr, z);
-}
-
-/* At most BATCH of them. Register A takes every z in, so that A and B go step by step too. */
+/* At most BATCH steps of a start. Register A takes every z in, so that A and B go step by step too. */
 static void initials(struct state *s, size_t n)
 {
     struct lfsr l = s->lfsr;
@@ -381,9 +373,9 @@ static void initials(struct state *s, size_t n)
     for (size_t at = 0; at < 16 * n; at += 16) {
         taps(&l, t1, t2, 1);
         next_r1(n1, l2 + at, r3, t2);
+        store(l1 + at + 16, n1);
         round_at(n2, l1 + at);
         round_at(r3, l2 + at);
-        store(l1 + at + 16, n1);
         store(l2 + at + 16, n2);
         output(z, l1 + at, l2 + at, t1);
         fed(&l, z);
@@ -406,7 +398,7 @@ static void start(struct state *s, const u8 *key, const u8 *iv, int sealed)
     to_cells(s->lfsr.b + 8, high);
     initials(s, 15);
     xor_into(s->r1, low);
-    initial(s);
+    initials(s, 1);
     xor_into(s->r1, high);
 }
 
@@ -558,30 +550,27 @@ static inline void indices(u8 *m, struct element x)
     memcpy(m + 16, &low, sizeof low);
 }
 
-/* What 32 indices name, summed. gcc reads an entry as one vector where the loop is unrolled and the sum goes to memory. */
-static __attribute__((noinline)) void product_at(struct element *z, const u8 *m, const struct table *t)
+/* What the indices of byte k name, summed. */
+static inline struct element byte(const u8 *m, int k, const struct table *t)
 {
-    u64 lo = 0, hi = 0;
-#pragma GCC unroll 16
-    for (int k = 0; k < 16; k++) {
-        const u64 *p = t->at[2 * k] + m[k], *q = t->at[2 * k + 1] + m[16 + k];
-        lo ^= p[0] ^ q[0];
-        hi ^= p[1] ^ q[1];
-    }
-    z->lo = lo;
-    z->hi = hi;
+    const u64 *p = t->at[2 * k] + m[k], *q = t->at[2 * k + 1] + m[16 + k];
+    return (struct element){p[0] ^ q[0], p[1] ^ q[1]};
+}
+
+static inline struct element quarter(const u8 *m, int k, const struct table *t)
+{
+    return add(add(byte(m, k, t), byte(m, k + 1, t)), add(byte(m, k + 2, t), byte(m, k + 3, t)));
 }
 
 /* (y + x) times H, by indices in m. */
 static inline struct element absorb_at(struct element y, struct element x, const struct table *t, u8 *m)
 {
-    struct element z;
     indices(m, add(y, x));
-    product_at(&z, m, t);
-    return z;
+    return add(add(quarter(m, 0, t), quarter(m, 4, t)), add(quarter(m, 8, t), quarter(m, 12, t)));
 }
 
-static struct element absorb_element(struct element y, struct element x, const struct table *t)
+/* The same for a single block, and where nothing else is made meanwhile. */
+static __attribute__((noinline)) struct element absorb_element(struct element y, struct element x, const struct table *t)
 {
     u8 m[32];
     return absorb_at(y, x, t, m);
@@ -602,15 +591,11 @@ struct held {
     u8 pending[16];
 };
 
-/* Whole blocks. The indices go to another place for each block, so that the compiler reads each from memory. */
+/* Whole blocks. */
 static struct element absorb_blocks(struct element y, const u8 *piece, size_t n, const struct table *t)
 {
-    u8 m[32 * BATCH];
-    for (size_t i = 0; i < n; i += 16) {
-        u32 x[4];
-        load(x, piece + i);
-        y = absorb_at(y, from_block(x), t, m + 2 * i % sizeof m);
-    }
+    for (size_t i = 0; i < n; i += 16)
+        y = absorb(y, piece + i, t);
     return y;
 }
 
@@ -707,9 +692,9 @@ static void sealed_batch(struct session *s, const u8 *piece, u8 *out, size_t n, 
     memcpy(z, s->current, sizeof z);
     for (size_t at = 0; at < 16 * n; at += 16) {
         next_r1(n1, l2 + at, r3, t2 + at / 2);
+        store(l1 + at + 16, n1);
         round_at(n2, l1 + at);
         round_at(r3, l2 + at);
-        store(l1 + at + 16, n1);
         store(l2 + at + 16, n2);
         output(z, l1 + at, l2 + at, t1 + at / 2);
         load(c, piece + at);
