@@ -1,7 +1,8 @@
 /* The algorithms of the proved library (crates words, lfsr, aes, wide_round, cipher, start, ghash, digest, session, page and suspend) in C: the
  * registers clocked up to 16 steps ahead, with T1 and T2 left in lanes of cells; R1 and R2 in lanes of bytes, which the AES round looks up in
  * a table of words; GHASH by H's multiples by every four bits at each of 32 places, looked up by bytes in the loop of the steps; a page as begin,
- * data, text and tag over one table of H. The way back goes a step at a time, by the inverse S-box of bytes. Structs go by pointer, as C does it,
+ * data, text and tag over one table of H. The way back goes a step at a time, by the inverse S-box of bytes. A step writes R1 behind the rounds,
+ * since gcc makes faster code of that; the library writes it before them, for the same reason. Structs go by pointer, as C does it,
  * and the table of words and the inverse S-box are static. What a call here leaves out of its Rattle counterpart are the tests of its arguments'
  * lengths and the clearing of its arrays. */
 
@@ -286,9 +287,9 @@ static void batch(struct state *s, u8 *out, size_t n)
     memcpy(r3, s->r3, sizeof r3);
     for (size_t at = 0; at < 16 * n; at += 16) {
         next_r1(n1, l2 + at, r3, t2 + at / 2);
-        store(l1 + at + 16, n1);
         round_at(n2, l1 + at);
         round_at(r3, l2 + at);
+        store(l1 + at + 16, n1);
         store(l2 + at + 16, n2);
         output(z, l1 + at, l2 + at, t1 + at / 2);
         store(out + at, z);
@@ -373,9 +374,9 @@ static void initials(struct state *s, size_t n)
     for (size_t at = 0; at < 16 * n; at += 16) {
         taps(&l, t1, t2, 1);
         next_r1(n1, l2 + at, r3, t2);
-        store(l1 + at + 16, n1);
         round_at(n2, l1 + at);
         round_at(r3, l2 + at);
+        store(l1 + at + 16, n1);
         store(l2 + at + 16, n2);
         output(z, l1 + at, l2 + at, t1);
         fed(&l, z);
@@ -692,9 +693,9 @@ static void sealed_batch(struct session *s, const u8 *piece, u8 *out, size_t n, 
     memcpy(z, s->current, sizeof z);
     for (size_t at = 0; at < 16 * n; at += 16) {
         next_r1(n1, l2 + at, r3, t2 + at / 2);
-        store(l1 + at + 16, n1);
         round_at(n2, l1 + at);
         round_at(r3, l2 + at);
+        store(l1 + at + 16, n1);
         store(l2 + at + 16, n2);
         output(z, l1 + at, l2 + at, t1 + at / 2);
         load(c, piece + at);
