@@ -59,18 +59,14 @@ static double clock_ns(void)
     return (double)t.tv_sec * 1e9 + (double)t.tv_nsec;
 }
 
-/* A call is repeated until it takes 0.2 ms. */
-static double timed(int now, const struct row *r)
+/* Nanoseconds a call, of so many between two readings of the clock. */
+static double timed(int now, const struct row *r, long calls)
 {
-    double start = clock_ns(), took;
-    long calls = 0;
-    do {
+    double start = clock_ns();
+    for (long i = 0; i < calls; i++)
         if (call(now, r) != 0)
             exit(1);
-        calls++;
-        took = clock_ns() - start;
-    } while (took < 2e5);
-    return took / (double)calls;
+    return (clock_ns() - start) / (double)calls;
 }
 
 /* What is opened, traced and resumed, by a session, so that no call that is counted is made here. */
@@ -88,21 +84,28 @@ static void prepare(void)
 
 int main(int n, char **words)
 {
+    static double best[ROWS][2];
+    static long calls[ROWS];
     prepare();
     if (n == 4) {
         struct row r = {words[2], (size_t)atol(words[3])};
         return call(strcmp(words[1], "before") != 0, &r) != 0;
     }
+    /* A round goes over all rows, so that noise hits all alike; in it a call is repeated until it takes 0.2 ms. */
     for (int i = 0; i < ROWS; i++) {
-        double best[2] = {1e18, 1e18};
-        for (int round = 0; round < atoi(words[1]); round++)
+        best[i][0] = best[i][1] = 1e18;
+        for (calls[i] = 1; timed(1, rows + i, calls[i]) * (double)calls[i] < 2e5;)
+            calls[i] *= 2;
+    }
+    for (int round = 0; round < atoi(words[1]); round++)
+        for (int i = 0; i < ROWS; i++)
             for (int k = 0; k < 2; k++) {
                 int now = (round + k) % 2;
-                double took = timed(now, rows + i);
-                if (took < best[now])
-                    best[now] = took;
+                double took = timed(now, rows + i, calls[i]);
+                if (took < best[i][now])
+                    best[i][now] = took;
             }
-        printf("%s,%zu,%.1f,%.1f\n", rows[i].task, rows[i].size, best[0], best[1]);
-    }
+    for (int i = 0; i < ROWS; i++)
+        printf("%s,%zu,%.1f,%.1f\n", rows[i].task, rows[i].size, best[i][0], best[i][1]);
     return 0;
 }

@@ -47,13 +47,14 @@ def read_processes(path):
 
 
 def read_against(path):
-    """{(task, size): (ns before, ns, instructions before, instructions)}; nothing where there is no such file."""
-    rows = {}
+    """What the earlier build is called, and {(task, size): (ns before, ns, instructions before, instructions)}; nothing where there is no such file."""
+    name, rows = None, {}
     if path.exists():
-        with open(path) as f:
-            for task, size, *figures in list(csv.reader(f))[1:]:
-                rows[(task, int(size))] = tuple(map(float, figures))
-    return rows
+        first, _, *lines = path.read_text().splitlines()
+        name = first.partition(": ")[2]
+        for task, size, *figures in csv.reader(lines):
+            rows[(task, int(size))] = tuple(map(float, figures))
+    return name, rows
 
 
 def ratios(row, above, below):
@@ -112,11 +113,12 @@ def goals(rows, processes, against):
         ("keystream of 1 MiB takes as long as the same algorithms in C", ratio(keystream, OURS, SAME), "at most", 1.15),
         ("sealing 1 MiB takes as long as the same algorithms in C", ratio(seal, OURS, SAME), "at most", 1.15),
         ("keystream, instructions a block", block(keystream), "at most", 240),
-        ("sealing, instructions a block", block(seal), "at most", 430),
+        ("sealing, instructions a block (375 wanted)", block(seal), "at most", 430),
         ("a page of 64 bytes takes as long as before", long(("seal", 64)), "at most", 0.75),
         ("a page of 474 bytes takes as long as before", long(("seal", 474)), "at most", 0.75),
         ("a start takes as long as before", long(("start", 0)), "at most", 0.6),
         ("trace of 65,538 blocks takes as many instructions as before", many(("trace", 65538)), "at most", 1),
+        ("resuming after 65,538 blocks takes as many instructions as before", many(("resume", 65538)), "at most", 1),
     ]
     if keystream in processes:
         median = statistics.median(ratios(processes[keystream], PORTABLE, OURS))
@@ -140,11 +142,11 @@ def each(processes):
                 yield ""
 
 
-def beside(against):
-    """The library beside the one before."""
+def beside(name, against):
+    """The library beside the earlier build."""
     if not against:
         return
-    yield "The library beside the one before request S-7, in one process, in alternating rounds, and the instructions of a call of both:"
+    yield f"The library beside {name}, in one process, in alternating rounds, and the instructions of a call of both:"
     yield ""
     yield from markdown(["", "before", "now", "now over before", "instructions before", "now"], [
         [label(row), time(old), time(new), f"{new / old:.2f}", f"{count:,.0f}", f"{now:,.0f}"] for row, (old, new, count, now) in against.items()])
@@ -155,7 +157,7 @@ def compared(rows):
     return [row for row in rows if len(rows[row]) > 1]
 
 
-def table(said, peers, rows, processes, against):
+def table(said, peers, rows, processes, name, against):
     shown = compared(rows)
     yield "How long a call takes, best of " + said["rounds"] + " rounds:"
     yield ""
@@ -169,7 +171,7 @@ def table(said, peers, rows, processes, against):
     yield ""
     yield from markdown([""] + peers, [
         [task] + [f"{1e9 / rows[(task, MIB)][p][0]:.0f}" if p in rows[(task, MIB)] else "-" for p in peers] for task in ("keystream", "seal")])
-    yield from beside(against)
+    yield from beside(name, against)
     yield "What was asked:"
     yield ""
     yield from markdown(["", "figure", "asked", "reached"], [
@@ -240,7 +242,7 @@ def chart(peers, rows):
 def main():
     results = Path(sys.argv[1])
     said, peers, rows = read(results / "results.csv")
-    text = "\n".join(table(said, peers, rows, read_processes(results / "processes.csv"), read_against(results / "against.csv"))) + "\n"
+    text = "\n".join(table(said, peers, rows, read_processes(results / "processes.csv"), *read_against(results / "against.csv"))) + "\n"
     (results / "table.md").write_text(text)
     (results / "chart.svg").write_text("\n".join(chart(peers, rows)) + "\n")
     print(text, end="")

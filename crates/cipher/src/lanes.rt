@@ -97,7 +97,8 @@ pub fn output(l1: &[u8], l2: &[u8], at: usize, t1: Block) -> Block
     words::xor(words::plus(words::load(l1, at), t1), words::load(l2, at))
 }
 
-// A state moved on to registers of which R1 and R2 stand at a place of their lanes.
+// A state moved on to registers of which R1 and R2 stand at a place of their lanes. All of `s` is written over: it is where the loop began, by which
+// the loop says how far it has come.
 pub fn moved_to(s: State, l: Lfsr, l1: &[u8], l2: &[u8], at: usize, r3: Block) -> State
     requires { ⌜ (at + 16 ≤ length (now l1)) × (at + 16 ≤ length (now l2)) ⌝ }
     ensures { λ r. ⌜ registersOf r ≡ in-lanes (lfsrOf l) (now (l1 .entry)) (now (l2 .entry)) at (bytesOf r3) ⌝ }

@@ -4,7 +4,7 @@ use mathlib.Core.Path.{_≡_, refl, sym, ap, ap₂, _∙_}
 use mathlib.Core.List.{List, [], _∷_, _++_}
 use Prim.Native.Nat.{ℕ, zero, suc, _+_, _*_, _/_, _%_, _^_, _<_}
 use native.Mathlib.Omega.{arith}
-use native.Mathlib.Nat.{mod-lt, add-zero, add-comm, mul-comm, mul-assoc, pow-suc}
+use native.Mathlib.Nat.{mod-lt, add-zero, add-comm, mul-assoc, pow-suc}
 use native.Mathlib.Numerals.{add-one}
 use lib.Bits.{bitOr, or-shifted}
 use lib.Dec.{lit<}

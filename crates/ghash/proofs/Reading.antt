@@ -1,15 +1,15 @@
 -- A product read off the table of H. The masks that make a block's indices keep to its bytes; the two entries of a byte are its two halves at their
 -- places • H; and the bytes at their places make the block, so that the shares of all of them make the product.
 use mathlib.Core.Path.{_≡_, refl, sym, ap, ap₂, _∙_}
-use mathlib.Core.List.{List, _∷_, _++_, append-assoc, map-append}
+use mathlib.Core.List.{List, _∷_, _++_, map-append}
 use Prim.Native.Nat.{ℕ, zero, suc, _+_, _-_, _*_, _/_, _%_, _^_, _<_, _≤_}
 use native.Mathlib.Omega.{arith}
-use native.Mathlib.Nat.{mod-lt, mul-one, zero-mul, mul-assoc, pow-succ'}
+use native.Mathlib.Nat.{mod-lt, mul-one, mul-assoc, pow-succ'}
 use lib.Bits.{bitAnd, and-block, and-mask}
 use lib.Dec.{lit<}
-use lib.ListN.{length, getD, take, drop, length-append, length-map, length-take, List·getD-append, List·getD-map}
+use lib.ListN.{length, getD, take, length-append, length-map, List·getD-append, List·getD-map}
 use lib.Pow.{split, pow-add}
-use lib.Seq.{sets, sets-eq, length-sets, getD-take, getD-drop, getD-append-add, take-add, take-all, take-at, drop-at, drop-drop}
+use lib.Seq.{sets, length-sets, getD-append-add, take-all}
 use Rattle.words.specs.Xor.{_⊕_, xors}
 use Rattle.words.specs.Bytes.{little, part, IsBlock}
 use Rattle.words.proofs.XorLaws.{⊕-shl, ⊕-shifted}
@@ -23,7 +23,7 @@ use Rattle.ghash.specs.Inner.{highs, lows, indices, share, Read}
 use Rattle.ghash.specs.declared.Element.{Element}
 use Rattle.ghash.proofs.BigEndian.{pow-pow, big-lt, big-append}
 use Rattle.ghash.proofs.Elements.{element-block, big-sum}
-use Rattle.ghash.proofs.Product.{product-xor, product-zero}
+use Rattle.ghash.proofs.Product.{product-xor}
 
 -- ---- a block's indices
 
@@ -141,7 +141,7 @@ module _ (s h : List ℕ) (b : IsBlock s) where
       ∙ ap₂ (λ (x n : ℕ). product (x * 256 ^ n) (big h)) (sym (one-byte k hk)) e
 
   -- what stands side by side
-  pub share-join : (k m n : ℕ) → k + m + n ≤ 16 → share s h k m ⊕ share s h (k + m) n ≡ share s h k (m + n)
+  share-join : (k m n : ℕ) → k + m + n ≤ 16 → share s h k m ⊕ share s h (k + m) n ≡ share s h k (m + n)
   unfolding share
   share-join k m n hk =
       let a = big (part k m s) in
@@ -161,7 +161,7 @@ module _ (s h : List ℕ) (b : IsBlock s) where
       ∙ ap (λ (x : ℕ). product x (big h)) (sym (ap₂ (λ (x y : ℕ). x * 256 ^ y) joins z ∙ moved ∙ ap (λ (x : ℕ). x ⊕ c * 256 ^ e) up))
 
   -- the four quarters, and the four bytes of one
-  pub share-four : (k n : ℕ) → k + 4 * n ≤ 16
+  share-four : (k n : ℕ) → k + 4 * n ≤ 16
       → (share s h k n ⊕ share s h (k + n) n) ⊕ (share s h (k + 2 * n) n ⊕ share s h (k + 3 * n) n) ≡ share s h k (4 * n)
   share-four k n hk =
       let p : k + 2 * n ≡ k + (n + n) = omega arith in

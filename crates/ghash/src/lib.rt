@@ -270,7 +270,7 @@ pub fn absorb_at(
     )
 }
 
-// The same for a single block, and where nothing else is made meanwhile.
+// The same for a single block, and where nothing else is made meanwhile. The quarters are spelt out again: a second caller would make `absorb_at` a call.
 pub fn absorb_element(y: Element, x: Element, h: Element, table: &[u64; 1024]) -> Element
     requires { ⌜ Table (bytesOfElement h) (now table) ⌝ }
     ensures { λ r. ⌜ bytesOfElement r ≡ eat (bytesOfElement h) (bytesOfElement y) (bytesOfElement x) ⌝ }

@@ -88,9 +88,9 @@ module _ (p key o : List ℕ) (from n : ℕ) where
   unfolding xors
   under-none = record { at-most = zero-le; written = refl }
 
-  pub under-block : from + 16 * n ≤ length p → 16 * n ≤ length key → (i : ℕ) {out c out′ : List ℕ} → i < n → Under p key o from n i out
+  pub under-turn : from + 16 * n ≤ length p → 16 * n ≤ length key → (i : ℕ) {out c out′ : List ℕ} → i < n → Under p key o from n i out
       → c ≡ xors (part (from + 16 * i) 16 p) (part (16 * i) 16 key) → out′ ≡ sets out (from + 16 * i) c → Under p key o from n (i + 1) out′
-  under-block read long i {out} {c} {out′} lt m ec eo =
+  under-turn read long i {out} {c} {out′} lt m ec eo =
       let at = from + 16 * i in
       let v = xors (part from (16 * i) p) (take (16 * i) key) in
       let kp = part-long p from (16 * i) (omega arith) in

@@ -115,9 +115,9 @@ pub fn tag_with(s: Session, table: &[u64; 1024]) -> Block
 }
 
 // n blocks of the input, from a place on, under as many of keystream: written from there on.
-fn under_blocks(input: &[u8], key: &[u8], out: &mut [u8], from: usize, n: usize)
-    requires { ⌜ (from + 16 * n ≤ length (now input)) × (from + 16 * n ≤ length (now out)) × (16 * n ≤ length (now key)) ⌝ }
-    ensures { λ _. ⌜ now (out .exit) ≡ sets (now (out .entry)) from (xors (part from (16 * n) (now (input .entry))) (take (16 * n) (now (key .entry)))) ⌝ }
+fn under_keystream(input: &[u8], stream: &[u8], out: &mut [u8], from: usize, n: usize)
+    requires { ⌜ (from + 16 * n ≤ length (now input)) × (from + 16 * n ≤ length (now out)) × (16 * n ≤ length (now stream)) ⌝ }
+    ensures { λ _. ⌜ now (out .exit) ≡ sets (now (out .entry)) from (xors (part from (16 * n) (now (input .entry))) (take (16 * n) (now (stream .entry)))) ⌝ }
 {
     let mut i: usize = 0;
     while i < n {
@@ -125,7 +125,7 @@ fn under_blocks(input: &[u8], key: &[u8], out: &mut [u8], from: usize, n: usize)
         words::store(
             out,
             at,
-            words::xor(words::load(input, at), words::load(key, 16 * i)),
+            words::xor(words::load(input, at), words::load(stream, 16 * i)),
         );
         i += 1;
     }
@@ -139,13 +139,13 @@ pub fn apply_keystream(s: Session, input: &[u8], out: &mut [u8], rounds: &[u32; 
     let n = input.len();
     let to = n / 16 * 16;
     let mut state = s.state;
-    let mut key = [0u8; 256];
+    let mut stream = [0u8; 256];
     let mut i: usize = 0;
     while i < to {
         let k = lanes::at_most((to - i) / 16);
-        let t = lanes::batch(state, rounds, &mut key, 0, k);
+        let t = lanes::batch(state, rounds, &mut stream, 0, k);
         state = t;
-        under_blocks(input, &key, out, i, k);
+        under_keystream(input, &stream, out, i, k);
         i += 16 * k;
     }
     if i < n {

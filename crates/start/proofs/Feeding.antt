@@ -4,12 +4,10 @@ use mathlib.Core.List.{List}
 use Prim.Native.Nat.{ℕ, _+_, _*_, _<_}
 use native.Mathlib.Omega.{arith}
 use native.Mathlib.Numerals.{add-one}
-use Rattle.words.specs.Xor.{xors}
 use Rattle.words.specs.Bytes.{littles, part}
-use Rattle.words.specs.Sums.{_⊞_}
 use Rattle.lfsr.specs.Clock.{Lfsr, snowV, clocks}
 use Rattle.cipher.specs.Registers.{Registers, IsRegisters}
-use Rattle.cipher.specs.Step.{sigma, T1, T2, step}
+use Rattle.cipher.specs.Step.{T1, T2, step}
 use Rattle.cipher.specs.Run.{moves}
 use Rattle.cipher.specs.Inner.{clocked, Tapped}
 use Rattle.cipher.proofs.Standing.{Standing, Turned, turned-by, tapped-1, tapped-2, turn-z, turn-stands}

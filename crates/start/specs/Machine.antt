@@ -4,7 +4,6 @@ use mathlib.Core.Path.{_≡_}
 use mathlib.Core.List.{List, _++_}
 use Rattle.scope.specs.Refusals.{granted}
 use Rattle.words.specs.Bytes.{little}
-use Rattle.words.specs.Machine.{bytesOf}
 use Rattle.cipher.specs.Machine.{registersOf}
 use Rattle.start.specs.declared.Mode as machine-mode
 use Rattle.start.specs.declared.Mode.the-variants.{Plain, Sealed}

@@ -2,7 +2,7 @@
 ghost use mathlib.Core.Path.{_≡_};
 ghost use mathlib.Core.List.{_++_};
 ghost use Prim.Native.Nat.{_+_, _≤_};
-ghost use Rattle.words.specs.Bytes.{little, littles, numbers};
+ghost use Rattle.words.specs.Bytes.{littles, numbers};
 ghost use Rattle.words.specs.Machine.{bytesOf};
 ghost use Rattle.aes.specs.Unround.{unsub};
 ghost use Rattle.aes.specs.Tables.{Holds};

@@ -1,5 +1,5 @@
 -- The answers of keystream and trace, by what they find.
-use mathlib.Core.Path.{_≡_, refl, ap, _∙_}
+use mathlib.Core.Path.{_≡_, refl, _∙_}
 use mathlib.Core.List.{List, [], _∷_, _++_}
 use Prim.Native.Nat.{ℕ, _*_, _≤_, _<_}
 use native.Mathlib.Omega.{arith}
@@ -17,7 +17,7 @@ use Rattle.start.specs.Trace.{trace}
 use Rattle.layout.specs.Block.{registers-at}
 use Rattle.tulvekas.specs.Order.{room}
 use Rattle.tulvekas.specs.Cipher.{fitting, keystream-answer, trace-of-bytes, mode-byte, trace-answer, trace-iv, trace-sealed}
-use Rattle.tulvekas.proofs.Answering.{never, unwritten, accepted, below-refuses, short, fits as room-fits}
+use Rattle.tulvekas.proofs.Answering.{never, unwritten, accepted, below-refuses, short, fits}
 
 module _ (key iv out : List ℕ) {n : ℕ} (e : n ≡ start-number key iv) where
   pub keystream-refused : ¬ (n ≡ 0) → n ≡ keystream-answer key iv out
@@ -71,11 +71,11 @@ module _ (iv flag : List ℕ) {a : Traced} where
     told-short-iv h = told-short (short 16 iv (room 1 flag 0) h)
 
     pub told-short-sealed : 16 ≤ length iv → length flag < 1 → Told a iv flag 4 iv flag
-    told-short-sealed h k = told-short (short 1 flag 0 k ∙ room-fits 16 iv (room 1 flag 0) h)
+    told-short-sealed h k = told-short (short 1 flag 0 k ∙ fits 16 iv (room 1 flag 0) h)
 
     pub told-found : 16 ≤ length iv → 1 ≤ length flag → {iv′ flag′ : List ℕ} → iv′ ≡ v ++ drop 16 iv → flag′ ≡ (mode-byte m ∷ []) ++ drop 1 flag
         → Told a iv flag 0 iv′ flag′
     unfolding trace-answer trace-iv trace-sealed
     told-found h k ei es =
-        let z : 0 ≡ room 16 iv (room 1 flag 0) = room-fits 1 flag 0 k ∙ room-fits 16 iv (room 1 flag 0) h in
+        let z : 0 ≡ room 16 iv (room 1 flag 0) = fits 1 flag 0 k ∙ fits 16 iv (room 1 flag 0) h in
         rw e (z, (ei ∙ accepted z (v ++ drop 16 iv) iv, es ∙ accepted z ((mode-byte m ∷ []) ++ drop 1 flag) flag))

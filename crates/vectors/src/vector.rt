@@ -74,7 +74,7 @@ fn after_step(s: State, low: Block, step: usize) -> State {
     s
 }
 
-// The z of each of the 16 steps of a start in plain mode: that of the step, from where the start's own loop leads to.
+// The z of each of the 16 steps of a start in plain mode, from the states that the start's own loop leads to, one step at a time.
 fn initialisation(key: [u8; 32], iv: [u8; 16]) -> [u8; 256] {
     let rounds = wide_round::table();
     let low = words::load(&key, 0);

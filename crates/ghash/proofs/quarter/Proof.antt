@@ -1,5 +1,4 @@
 -- `ghash::quarter` meets its contract: the shares of four bytes, summed two by two, are the share of the four.
-use mathlib.Core.Path.{_≡_}
 use Rattle.ghash.proofs.Reading.{four-shares}
 use borrow.Author.Needs.{needs}
 use Rattle.ghash.proofs.quarter.Statement.{statement}

@@ -20,12 +20,12 @@ use Rattle.session.proofs.lent.apply_keystream.Statement.{statement}
 use Rattle.session.proofs.lent.apply_keystream.Tie as tie
 
 abbrev Inv-loop : tie.InvT-loop
-Inv-loop input out₀ rounds n to state₀ key₀ i₀ out state key i =
+Inv-loop input out₀ rounds n to state₀ stream₀ i₀ out state stream i =
     ((s : Session) → registersOf state₀ ≡ s .registers → IsRegisters (registersOf state₀) → s .text % 16 ≡ 0 → Streaming s input out₀ out (registersOf state) i)
-    × (i ≤ to) × (i % 16 ≡ 0) × (length key ≡ 256)
+    × (i ≤ to) × (i % 16 ≡ 0) × (length stream ≡ 256)
 
 abbrev μ-loop : tie.MeasureT-loop
-μ-loop input out₀ rounds n to state₀ key₀ i₀ out state key i = to - i
+μ-loop input out₀ rounds n to state₀ stream₀ i₀ out state stream i = to - i
 
 loop-holds : tie.Need-loop-holds Inv-loop μ-loop
 loop-holds c = ((λ s e g h. begun s _ _ _ e g h), omega arith, refl, refl)
@@ -66,17 +66,17 @@ batch-requires c κs =
     let k = c .before .before .before .loop .inv .3 in
     (h, omega arith, c .before .before .before .before .before .before .before .pre .2)
 
--- the keystream's block keeps its length
+-- the array of keystream keeps its length
 kept : (c : tie.After-batch Inv-loop μ-loop) → length (c .batch .last .1 .1 .0) ≡ 256
 kept c =
     let l = c .before .before .before .before .loop in
-    ap length (c .batch .ensures .1) ∙ length-sets (l .key) 0 (blocks forward (c .before .before .at-most .result) (registersOf (l .state))) ∙ l .inv .3
+    ap length (c .batch .ensures .1) ∙ length-sets (l .stream) 0 (blocks forward (c .before .before .at-most .result) (registersOf (l .state))) ∙ l .inv .3
 
-slice-aggregate-under-blocks : tie.Need-slice-aggregate-under-blocks Inv-loop μ-loop
-slice-aggregate-under-blocks c = sym (kept (c .before .before))
+slice-aggregate-under-keystream : tie.Need-slice-aggregate-under-keystream Inv-loop μ-loop
+slice-aggregate-under-keystream c = sym (kept (c .before .before))
 
-under-blocks-requires : tie.Need-under-blocks-requires Inv-loop μ-loop
-under-blocks-requires c κs =
+under-keystream-requires : tie.Need-under-keystream-requires Inv-loop μ-loop
+under-keystream-requires c κs =
     let b = c .before .before .before in
     let next = b .before .before in
     let k = next .at-most .ensures .0 in
@@ -97,8 +97,8 @@ loop-again c =
     let g = given (next .before .before) in
     let h = left next in
     let read : l .i + 16 * k ≤ length p = omega (arith, h .1) in
-    let fits : 16 * k ≤ length (l .key) = omega (arith, next .at-most .ensures .0, l .inv .3) in
-    let eo = under-drawn p (l .out) (l .key) (registersOf (l .state)) (l .i) k (g .good) fits (w .1) (c .before .before .under-blocks .ensures) in
+    let fits : 16 * k ≤ length (l .stream) = omega (arith, next .at-most .ensures .0, l .inv .3) in
+    let eo = under-drawn p (l .out) (l .stream) (registersOf (l .state)) (l .i) k (g .good) fits (w .1) (c .before .before .under-keystream .ensures) in
     ((λ s e q z. stream-blocks (l .inv .0 s e q z) _ k read eo _ (w .0)), h .1, omega (arith, l .inv .2), kept b)
 
 under-requires : tie.Need-under-requires Inv-loop μ-loop
@@ -148,8 +148,8 @@ apply-keystream-spec =
     (λ c κs. search needs)
     slice-aggregate-batch
     batch-requires
-    slice-aggregate-under-blocks
-    under-blocks-requires
+    slice-aggregate-under-keystream
+    under-keystream-requires
     (λ c. omega (arith, c .before .before .before .before .before .before .before .before .at-most .ensures .0))
     (λ c. omega (arith, left (c .before .before .before .before .before .before .before .before) .1, short (c .before .before .before .before .before .before .before .before .before .before .before .before)))
     (λ c. let k = left (c .before .before .before .before .before .before .before .before) in omega (arith, k .0, k .1))
