@@ -342,9 +342,9 @@ fn walk_number(key: &[u8], count: u64) -> u64
     scope::COUNT_TOO_HIGH
 }
 
-// Document 01's trace: the IV and mode that lead to a state under a key at a count of blocks drawn. Refused: 1 for the key's length, 9 for
-// the count, 6 where no IV and mode lead there.
-pub fn trace(s: State, key: &[u8], count: u64) -> Traced
+// As `trace`, with the inverse S-box lent.
+pub fn trace_with(s: State, key: &[u8], count: u64, inverse: &[u8; 256]) -> Traced
+    requires { ⌜ Holds unsub (now inverse) ⌝ }
     ensures leads { λ r. ⌜ Traces (registersOf s) (now (key .entry)) count (tracedOf r) ⌝ }
     ensures walk { λ r. ⌜ tracedOf r ≡ Trace.trace (registersOf s) (now (key .entry)) count ⌝ }
 {
@@ -352,9 +352,18 @@ pub fn trace(s: State, key: &[u8], count: u64) -> Traced
     if n != 0 {
         return Traced::Refused(n);
     }
-    let inverse = aes::inverse_sbox();
     let low = words::load(key, 0);
     let high = words::load(key, 16);
-    let t = walked_back(s, count, &inverse);
-    unload(loaded(t, low, high, &inverse), low, high)
+    let t = walked_back(s, count, inverse);
+    unload(loaded(t, low, high, inverse), low, high)
+}
+
+// Document 01's trace: the IV and mode that lead to a state under a key at a count of blocks drawn. Refused: 1 for the key's length, 9 for
+// the count, 6 where no IV and mode lead there.
+pub fn trace(s: State, key: &[u8], count: u64) -> Traced
+    ensures leads { λ r. ⌜ Traces (registersOf s) (now (key .entry)) count (tracedOf r) ⌝ }
+    ensures walk { λ r. ⌜ tracedOf r ≡ Trace.trace (registersOf s) (now (key .entry)) count ⌝ }
+{
+    let inverse = aes::inverse_sbox();
+    trace_with(s, key, count, &inverse)
 }

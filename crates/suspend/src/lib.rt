@@ -5,6 +5,8 @@ ghost use Prim.Native.Nat.{_≤_};
 ghost use lib.ListN.{length, drop};
 ghost use Rattle.scope.specs.Limits.{most-text};
 ghost use Rattle.words.specs.Bytes.{little};
+ghost use Rattle.aes.specs.Unround.{unsub};
+ghost use Rattle.aes.specs.Tables.{Holds};
 ghost use Rattle.cipher.specs.Machine.{registersOf};
 ghost use Rattle.start.specs.Start.{Mode.sealed};
 ghost use Rattle.start.specs.Leads.{LeadsTo};
@@ -97,8 +99,8 @@ pub fn iv_bytes(lo: u64, hi: u64) -> [u8; 16]
 
 // The session of what a block says, under the IV that leads to its state: H and the end pad are those of a session begun under it, and the current
 // block is that of the step before.
-fn revived(key: &[u8], iv: [u8; 16], k: Suspended) -> Session
-    requires { ⌜ (length (now key) ≡ 32) × LeadsTo (now key) (drawn-at (k .text)) iv sealed (registersOf (k .state)) ⌝ }
+fn revived(key: &[u8], iv: [u8; 16], k: Suspended, inverse: &[u8; 256]) -> Session
+    requires { ⌜ (length (now key) ≡ 32) × LeadsTo (now key) (drawn-at (k .text)) iv sealed (registersOf (k .state)) × Holds unsub (now inverse) ⌝ }
     ensures { λ r. ⌜ sessionOf r ≡ Calls.revived (now (key .entry)) iv (suspendedOf k) ⌝ }
 {
     let state = k.state;
@@ -107,8 +109,7 @@ fn revived(key: &[u8], iv: [u8; 16], k: Suspended) -> Session
     let first = begun.session;
     let h = first.h;
     let pad = first.pad;
-    let inverse = aes::inverse_sbox();
-    let before = cipher::z_before(state, &inverse);
+    let before = cipher::z_before(state, inverse);
     let current = before.z;
     Session {
         phase: k.phase,
@@ -144,7 +145,8 @@ pub fn resume(key: &[u8], block: &[u8]) -> Resumed
     }
     let k = suspended::read(block);
     let state = k.state;
-    let Traced::Found(o) = start::trace(state, key, drawn(k.text)) else {
+    let inverse = aes::inverse_sbox();
+    let Traced::Found(o) = start::trace_with(state, key, drawn(k.text), &inverse) else {
         return refused(scope::NO_ORIGIN);
     };
     let mode = o.mode;
@@ -152,7 +154,7 @@ pub fn resume(key: &[u8], block: &[u8]) -> Resumed
         Mode::Plain => refused(scope::NO_ORIGIN),
         Mode::Sealed => {
             let iv = iv_bytes(o.lo, o.hi);
-            let session = revived(key, iv, k);
+            let session = revived(key, iv, k, &inverse);
             Resumed {
                 answer: scope::ACCEPTED,
                 iv: iv,

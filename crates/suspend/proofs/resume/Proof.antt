@@ -57,25 +57,25 @@ read-requires c κs = laid-long _ (laid c)
 
 drawn-requires : tie.Need-drawn-requires
 drawn-requires c κs =
-    let r = c .before in
+    let r = c .before .before in
     subst (λ (n : ℕ). n ≤ most-text) (sym (ap (λ (k : Suspended). k .text) (r .read .ensures))) (laid-text _ (laid (r .before)))
 
 -- the answer of the trace, of what the block says
-walked : (c : tie.After-trace)
-    → let a = c .before .before .before .before .before .before .before .before .before .args in tracedOf (c .trace .result)
+walked : (c : tie.After-trace-with)
+    → let a = c .before .before .before .before .before .before .before .before .before .before .before .args in tracedOf (c .trace-with .result)
     ≡ trace (read (now (a .block)) .registers) (now (a .key)) (drawn-at (read (now (a .block)) .text))
 walked c =
-    let d = c .before in
-    let r = d .before .before in
+    let d = c .before .before in
+    let r = d .before .before .before in
     let a = r .before .before .before .before .before .before .args in
-    c .trace .ensures .1
+    c .trace-with .ensures .1
     ∙ ap₂ (λ (s : Registers) (n : ℕ). trace s (now (a .key)) n) (ap (λ (k : Suspended). k .registers) (r .read .ensures))
     (d .drawn .ensures ∙ ap (λ (k : Suspended). drawn-at (k .text)) (r .read .ensures))
 
 returns-3 : tie.Need-returns-3
 returns-3 c =
     let t = c .before .before .before in
-    let l = t .before .before .before .before in
+    let l = t .before .before .before .before .before .before in
     let entry = l .before .before .before in
     let a = entry .before .before .args in
     both entry
@@ -85,7 +85,7 @@ returns-4 : tie.Need-returns-4
 returns-4 c =
     let o = c .before .before .before .before in
     let t = o .before .before in
-    let l = t .before .before .before .before in
+    let l = t .before .before .before .before .before .before in
     let entry = l .before .before .before in
     let a = entry .before .before .args in
     let x = o .o .given in
@@ -95,26 +95,28 @@ returns-4 c =
 
 revived-requires : tie.Need-revived-requires
 revived-requires c κs =
-    let o = c .before .before .before .before in
+    let v = c .before in
+    let o = v .before .before .before .before in
     let t = o .before .before in
-    let d = t .before in
-    let r = d .before .before in
+    let d = t .before .before in
+    let r = d .before .before .before in
     let a = r .before .before .before .before .before .before .args in
     let x = o .o .given in
     let iv = little 8 (x .0 .0 .lo) ++ little 8 (x .0 .0 .hi) in
-    let e = ap tracedOf (x .1) ∙ ap (λ m. origin iv (modeOf m)) (c .before .enum-told3 .given .1) in
-    let l = t .trace .ensures .0 .found iv sealed .0 e in (
+    let e = ap tracedOf (x .1) ∙ ap (λ m. origin iv (modeOf m)) (v .before .enum-told3 .given .1) in
+    let l = t .trace-with .ensures .0 .found iv sealed .0 e in (
       l .0 .0,
-      subst (λ (v : List ℕ). LeadsTo (now (a .key)) (drawn-at (r .read .result .text)) v sealed (registersOf (r .read .result .state))) (sym (c .iv-bytes .ensures))
+      subst (λ (v : List ℕ). LeadsTo (now (a .key)) (drawn-at (r .read .result .text)) v sealed (registersOf (r .read .result .state))) (sym (v .iv-bytes .ensures))
           (subst (λ (n : ℕ). LeadsTo (now (a .key)) n iv sealed (registersOf (r .read .result .state))) (d .drawn .ensures) (l .1)),
+      d .before .inverse-sbox .ensures,
     )
 
 returns-5 : tie.Need-returns-5
 returns-5 c =
-    let v = c .before in
+    let v = c .before .before in
     let o = v .before .before .before .before in
     let t = o .before .before in
-    let r = t .before .before .before in
+    let r = t .before .before .before .before .before in
     let l = r .before in
     let entry = l .before .before .before in
     let a = entry .before .before .args in
@@ -136,6 +138,7 @@ resume-spec =
     (λ c κs. search needs)
     returns-2
     read-requires
+    (λ c κs. search needs)
     drawn-requires
     (λ c κs. search needs)
     (λ c. search needs)

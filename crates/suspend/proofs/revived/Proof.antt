@@ -24,7 +24,7 @@ key-row c = record { long = c .before .pre .0; below = known-bytes (now (c .befo
 returns : tie.Need-returns
 unfolding revived moves
 returns c =
-    let b = c .before .before .before .before .before .before .before in
+    let b = c .before .before .before .before .before in
     let s = b .before .before .before .before .before in
     let key = now (s .args .key) in
     let iv = s .args .t2 in
@@ -45,4 +45,4 @@ returns c =
 pub revived-spec : {M : Type 1} → statement M
 revived-spec =
     tie.close
-    (tie.spec (λ c. search needs) (λ c κs. search needs) (λ c κs. search needs) (λ c κs. search needs) returns)
+    (tie.spec (λ c. search needs) (λ c κs. search needs) (λ c κs. search needs) returns)

@@ -1,4 +1,4 @@
--- `start::trace` meets its contract, by the key's length and the count: its answer is that of the walk, of which `traces` says what it finds.
+-- `start::trace_with` meets its contract, by the key's length and the count: its answer is that of the walk, of which `traces` says what it finds.
 use mathlib.Core.Path.{_≡_, sym, ap₂, subst, _∙_}
 use Prim.Native.Nat.{_≤_}
 use native.Mathlib.Omega.{arith}
@@ -13,8 +13,8 @@ use Rattle.start.specs.Trace.{unload, loaded, trace}
 use Rattle.start.proofs.Answers.{key-whole, walkable, trace-refused, trace-walks}
 use Rattle.start.proofs.Tracing.{traces}
 use borrow.Author.Needs.{needs}
-use Rattle.start.proofs.trace.Statement.{statement}
-use Rattle.start.proofs.trace.Tie as tie
+use Rattle.start.proofs.trace_with.Statement.{statement}
+use Rattle.start.proofs.trace_with.Tie as tie
 
 -- both clauses, of an answer that is the walk's
 both : {t : Traced} (c : tie.After-shared-slice-known) → let a = c .before .args in t ≡ trace (registersOf (a .s)) (now (a .key)) (a .count)
@@ -36,24 +36,23 @@ in-order c = let a = c .before .before .before .args in walkable (now (a .key)) 
 
 returns-2 : tie.Need-returns-2
 returns-2 c =
-    let x = c .before .before .before .before .before .before .before .before in
+    let x = c .before .before .before .before .before in
     let entry = x .before .before in
     let a = entry .before .args in
     let lk = in-order x .0 in
-    let k = key-whole (now (a .key)) _ _ lk (c .before .before .before .before .before .before .load .ensures) (c .before .before .before .before .before .load2 .ensures) in
+    let k = key-whole (now (a .key)) _ _ lk (c .before .before .before .before .load .ensures) (c .before .before .before .load2 .ensures) in
     both entry
-    (c .unload .ensures ∙ ap₂ unload k (c .before .loaded .ensures ∙ ap₂ loaded k (c .before .before .before .walked-back .ensures))
+    (c .unload .ensures ∙ ap₂ unload k (c .before .loaded .ensures ∙ ap₂ loaded k (c .before .before .walked-back .ensures))
     ∙ trace-walks (registersOf (a .s)) (now (a .key)) (a .count) lk (in-order x .1))
 
-pub trace-spec : {M : Type 1} → statement M
-trace-spec =
+pub trace-with-spec : {M : Type 1} → statement M
+trace-with-spec =
     tie.close
     (tie.spec
     (λ c κs. search needs)
     returns
-    (λ c κs. search needs)
+    (λ c κs. omega (arith, in-order c .0))
     (λ c κs. omega (arith, in-order (c .before) .0))
-    (λ c κs. omega (arith, in-order (c .before .before) .0))
     (λ c κs. search needs)
     (λ c κs. search needs)
     (λ c κs. search needs)
