@@ -125,7 +125,8 @@ def goals(rows, processes, against):
         asked[0] = "keystream of 1 MiB as fast as the portable C, median of processes", median, "at least", 3
     for what, figure, bound, limit in asked:
         if figure is not None:
-            reached = figure >= limit if bound == "at least" else figure <= limit
+            shown = round(figure, 3)
+            reached = shown >= limit if bound == "at least" else shown <= limit
             yield what, figure, f"{bound} {limit:g}", "yes" if reached else "no"
 
 
