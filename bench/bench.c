@@ -27,16 +27,16 @@
 /* AES (bit 57) and PCLMULQDQ (33) of leaf 1; VAES and VPCLMULQDQ (41 and 42) of leaf 7. */
 #define MASK "~0x200000200000000:~0x60000000000"
 
-uint8_t key[32], iv[16], text[MOST_TEXT], zeros[MOST_TEXT];
+uint8_t key[32], iv[16], text[MOST_TEXT], zeros[MOST_TEXT], file[PAGES * PAGE];
 
 static uint8_t out[MOST_TEXT], expected[MOST_TEXT], tag[16], expected_tag[16], found[16];
 
-enum task { KEYSTREAM, SEAL, TRACE, RESUME, BACK };
+enum task { KEYSTREAM, SEAL, TRACE, RESUME, BACK, FILE_SEAL, FILE_OPEN, PAGE_SEAL, PAGE_OPEN };
 
 static const struct row {
     const char *name;
     enum task task;
-    size_t size; /* bytes, or blocks drawn */
+    size_t size; /* bytes, blocks drawn, or pages of a file */
 } rows[] = {
     {"keystream", KEYSTREAM, 64},
     {"keystream", KEYSTREAM, 1024},
@@ -53,6 +53,10 @@ static const struct row {
     {"resume", RESUME, 2},
     {"resume", RESUME, 65538},
     {"back", BACK, 1048576},
+    {"page_seal", PAGE_SEAL, PAGE_TEXT},
+    {"file_seal", FILE_SEAL, PAGES},
+    {"page_open", PAGE_OPEN, PAGE_TEXT},
+    {"file_open", FILE_OPEN, PAGES},
 };
 
 #define ROWS (sizeof rows / sizeof *rows)
@@ -93,8 +97,17 @@ static int can(const struct peer *p, const struct row *r)
     case TRACE: return p->trace != NULL;
     case RESUME: return p->resume != NULL;
     case BACK: return p->back != NULL;
+    case FILE_SEAL: return p->file_seal != NULL;
+    case FILE_OPEN: return p->file_open != NULL;
+    case PAGE_SEAL: return p->page_seal != NULL;
+    case PAGE_OPEN: return p->page_open != NULL;
     }
     return 0;
+}
+
+static int has_tag(const struct row *r)
+{
+    return r->task == SEAL || r->task == PAGE_SEAL;
 }
 
 static int call(const struct peer *p, const struct row *r)
@@ -105,6 +118,10 @@ static int call(const struct peer *p, const struct row *r)
     case TRACE: return p->trace(found, r->size == 2 ? near_state : far_state, r->size);
     case RESUME: return p->resume(found, r->size == 2 ? near_block : far_block);
     case BACK: return p->back(out, r->size);
+    case FILE_SEAL: return p->file_seal(out);
+    case FILE_OPEN: return p->file_open(out);
+    case PAGE_SEAL: return p->page_seal(out, tag);
+    case PAGE_OPEN: return p->page_open(out);
     }
     return 1;
 }
@@ -171,7 +188,27 @@ static void suspend_sessions(void)
         fail("the suspended registers are not those of the paper's algorithm", "tulvekas");
 }
 
-/* All SNOW-V peers give the bytes that the first one gives. */
+/* The pages of 250 stays, four to a stay. They are sealed by pieces, so that no call that is counted is made here. */
+static void fill_file(void)
+{
+    for (uint32_t i = 0; i < PAGES; i++) {
+        uint8_t session[TULVEKAS_SESSION_BYTES], *page = file + PAGE * i;
+        uint32_t number = i % 4, day = DAY + i / 4 % 30;
+        uint16_t length = PAGE_TEXT;
+        memcpy(page, iv, TULVEKAS_STAY_BYTES);
+        page[10] = (uint8_t)(i / 4);
+        memcpy(page + 12, &number, sizeof number);
+        memcpy(page + 16, &day, sizeof day);
+        memcpy(page + 20, &length, sizeof length);
+        if (tulvekas_begin(key, sizeof key, page, sizeof iv, session, sizeof session) != 0 ||
+            tulvekas_data(session, sizeof session, page, HEADER) != 0 ||
+            tulvekas_text(session, sizeof session, text, PAGE_TEXT, page + HEADER, PAGE_TEXT) != 0 ||
+            tulvekas_finish(session, sizeof session, page + HEADER + PAGE_TEXT, TULVEKAS_TAG_BYTES) != 0)
+            fail("no page of a file", "tulvekas");
+    }
+}
+
+/* All SNOW-V peers give the bytes that the first one gives, and what is opened is the text. */
 static void compare(const struct row *r)
 {
     for (size_t i = 0; i < peer_count; i++) {
@@ -188,9 +225,11 @@ static void compare(const struct row *r)
         } else if (i == 0) {
             memcpy(expected, out, sizeof out);
             memcpy(expected_tag, tag, sizeof tag);
-        } else if (memcmp(out, expected, sizeof out) != 0 || (r->task == SEAL && memcmp(tag, expected_tag, sizeof tag) != 0)) {
+        } else if (memcmp(out, expected, sizeof out) != 0 || (has_tag(r) && memcmp(tag, expected_tag, sizeof tag) != 0)) {
             fail("the results differ", p->name);
         }
+        if ((r->task == FILE_OPEN || r->task == PAGE_OPEN) && memcmp(out, text, PAGE_TEXT) != 0)
+            fail("not the text", p->name);
     }
 }
 
@@ -419,6 +458,7 @@ int main(int argc, char **argv)
         return 0;
     }
     suspend_sessions();
+    fill_file();
     if (argc == 5 && strcmp(argv[1], "once") == 0)
         return once(argv[2], row(argv[3], argv[4]));
     return measure(argv[0], rounds, argc == 4 && strcmp(argv[1], "row") == 0 ? row(argv[2], argv[3]) : NULL);

@@ -15,7 +15,7 @@ from pathlib import Path
 
 OURS, SAME, PORTABLE = "tulvekas", "same in C", "portable C"
 AES, AES_MASKED = "AES-256-GCM", "AES-256-GCM masked"
-MIB = 1048576
+MIB, PAGES = 1048576, 1000
 
 
 def read(path):
@@ -68,6 +68,11 @@ def label(row):
         return "start"
     if task in ("trace", "resume"):
         return f"{task}, {size:,} blocks"
+    what, _, call = task.partition("_")
+    if what == "page":
+        return f"{call}, {size:,} bytes, 22 of data"
+    if what == "file":
+        return f"{call} in a file, {size:,} pages"
     return f"{task}, {size:,} bytes"
 
 
@@ -143,6 +148,23 @@ def each(processes):
                 yield ""
 
 
+def in_a_file(peers, rows):
+    """What a page file adds to the whole-page calls."""
+    lines = []
+    for call, what in (("seal", "sealing"), ("open", "opening")):
+        whole, inside = rows.get(("page_" + call, 474), {}), rows.get(("file_" + call, PAGES), {})
+        for peer in peers:
+            if peer in whole and peer in inside:
+                adds = inside[peer][0] - whole[peer][0]
+                each = f"{adds / PAGES:.2g} ns" if call == "open" else "-"
+                lines.append([f"{what}, {peer}", time(whole[peer][0]), time(inside[peer][0]), time(adds), each])
+    if lines:
+        yield f"A page of 474 bytes in the middle of a file of {PAGES:,} pages, beside the whole-page call on the same text and the same 22 bytes of data, in"
+        yield "one run. What the file adds is time outside cipher and hash; opening looks at every page of the file:"
+        yield ""
+        yield from markdown(["", "whole page", "in the file", "the file adds", "for each of its pages"], lines)
+
+
 def beside(name, against):
     """The library beside the earlier build."""
     if not against:
@@ -172,6 +194,7 @@ def table(said, peers, rows, processes, name, against):
     yield ""
     yield from markdown([""] + peers, [
         [task] + [f"{1e9 / rows[(task, MIB)][p][0]:.0f}" if p in rows[(task, MIB)] else "-" for p in peers] for task in ("keystream", "seal")])
+    yield from in_a_file(peers, rows)
     yield from beside(name, against)
     yield "What was asked:"
     yield ""

@@ -1,4 +1,4 @@
-/* The algorithms of the proved library (crates words, lfsr, aes, wide_round, cipher, start, ghash, digest, session, page and suspend) in C: the
+/* The algorithms of the proved library (crates words, lfsr, aes, wide_round, cipher, start, ghash, digest, session, page, page_file and suspend) in C: the
  * registers clocked up to 16 steps ahead, with T1 and T2 left in lanes of cells; R1 and R2 in lanes of bytes, which the AES round looks up in
  * a table of words; GHASH by H's multiples by every four bits at each of 32 places, looked up by bytes in the loop of the steps; a page as begin,
  * data, text and tag over one table of H. The way back goes a step at a time, by the inverse S-box of bytes. A step writes R1 behind the rounds,
@@ -530,7 +530,8 @@ static inline struct number place(u64 *t, struct number v)
     return times_x(v1);
 }
 
-static void fill(struct table *t, struct element h)
+/* Compiled into each of its callers, as gcc does by itself where there is one: called, it makes a page of 64 bytes take a tenth longer. */
+static inline __attribute__((always_inline)) void fill(struct table *t, struct element h)
 {
     struct number v = to_number(h);
     for (int p = 0; p < 32; p++)
@@ -740,15 +741,43 @@ static void text_with(struct session *s, const u8 *piece, size_t n, u8 *out, con
         hold(s, piece + head + whole, n - head - whole, out + head + whole);
 }
 
-static void tag_with(struct session *s, u8 *tag, const struct table *t)
+/* The tag over a hash of all data and text. */
+static void tag_from(const struct session *s, struct element y, u8 *tag, const struct table *t)
 {
-    struct element y;
     u32 x[4];
-    close_with(s, t);
-    y = settle_with(&s->held, s->text, t);
     to_block(x, absorb_element(y, lengths(s->ad, s->text), t));
     xor_into(x, s->pad);
     store(tag, x);
+}
+
+static void tag_with(struct session *s, u8 *tag, const struct table *t)
+{
+    close_with(s, t);
+    tag_from(s, settle_with(&s->held, s->text, t), tag, t);
+}
+
+/* The text of a ciphertext, with nothing hashed. */
+static void apply_keystream(struct session *s, const u8 *input, size_t n, u8 *out)
+{
+    u8 stream[16 * BATCH];
+    size_t to = n / 16 * 16, i = 0;
+    u32 x[4], z[4];
+    for (size_t k; i < to; i += 16 * k) {
+        k = at_most((to - i) / 16);
+        batch(&s->state, stream, k);
+        for (size_t at = 0; at < 16 * k; at += 16) {
+            load(x, input + i + at);
+            load(z, stream + at);
+            xor_into(x, z);
+            store(out + i + at, x);
+        }
+    }
+    if (i < n) {
+        forward(&s->state, z);
+        store(stream, z);
+        for (size_t at = 0; i + at < n; at++)
+            out[i + at] = input[i + at] ^ stream[at];
+    }
 }
 
 /* ---- the block of 512 bytes and the session's 216 */
@@ -810,6 +839,9 @@ static void store_session(u8 *p, const struct session *s)
 
 /* ---- the calls */
 
+/* A page of a file: its header, ciphertext and tag. */
+enum { PAGE = 512, HEADER = 22, PAGE_TEXT = 474 };
+
 void same_keystream(const uint8_t *key, const uint8_t *iv, uint64_t sealed, uint8_t *out, size_t n)
 {
     struct state s;
@@ -827,6 +859,75 @@ void same_seal(const uint8_t *key, const uint8_t *iv, const uint8_t *ad, size_t 
     data_with(&s, ad, ad_len, &t);
     text_with(&s, page, text_len, out, &t);
     tag_with(&s, tag, &t);
+}
+
+uint64_t same_open(const uint8_t *key, const uint8_t *iv, const uint8_t *ad, size_t ad_len, const uint8_t *cipher, size_t cipher_len,
+                   const uint8_t *tag, uint8_t *out)
+{
+    struct session s;
+    struct table t;
+    struct held d;
+    u8 expected[16];
+    begin(&s, key, iv);
+    fill(&t, s.h);
+    data_with(&s, ad, ad_len, &t);
+    close_with(&s, &t);
+    d = s.held;
+    absorb_with(&d, 0, cipher, cipher_len, &t);
+    s.text = cipher_len;
+    tag_from(&s, settle_with(&d, cipher_len, &t), expected, &t);
+    if (memcmp(tag, expected, 16) != 0)
+        return 5;
+    apply_keystream(&s, cipher, cipher_len, out);
+    return 0;
+}
+
+void same_file_seal(const uint8_t *key, const uint8_t *stay, uint32_t number, uint32_t day, const uint8_t *page, size_t text_len, size_t at,
+                    uint8_t *file)
+{
+    u8 whole[PAGE_TEXT] = {0}, *p = file + PAGE * at;
+    u16 length = (u16)text_len;
+    memcpy(whole, page, text_len);
+    memcpy(p, stay, 12);
+    memcpy(p + 12, &number, 4);
+    memcpy(p + 16, &day, 4);
+    memcpy(p + 20, &length, 2);
+    same_seal(key, p, p, HEADER, whole, PAGE_TEXT, p + HEADER, p + HEADER + PAGE_TEXT);
+}
+
+uint64_t same_file_open(const uint8_t *key, const uint8_t *stay, uint32_t number, const uint8_t *file, size_t file_len, uint8_t *out, uint64_t *length)
+{
+    const u8 *named = NULL;
+    u32 count = 0, day = 0;
+    int running = 1, dated = 1;
+    u8 whole[PAGE_TEXT];
+    u16 len;
+    if (file_len % PAGE != 0)
+        return 13;
+    for (const u8 *p = file; p < file + file_len; p += PAGE) {
+        memcpy(&len, p + 20, 2);
+        if (len > PAGE_TEXT || load32(p + 16) > 73048)
+            return 13;
+        if (memcmp(p, stay, 12) != 0)
+            continue;
+        if (count == 0)
+            day = load32(p + 16);
+        if (count == number)
+            named = p;
+        running &= load32(p + 12) == count;
+        dated &= load32(p + 16) == day;
+        count++;
+    }
+    if (named == NULL || !running || !dated)
+        return 14;
+    if (same_open(key, named, named, HEADER, named + HEADER, PAGE_TEXT, named + HEADER + PAGE_TEXT, whole) != 0)
+        return 5;
+    memcpy(&len, named + 20, 2);
+    if (!blank(whole + len, PAGE_TEXT - len))
+        return 13;
+    memcpy(out, whole, len);
+    *length = len;
+    return 0;
 }
 
 uint64_t same_trace(const uint8_t *state, const uint8_t *key, uint64_t count, uint8_t *iv, uint8_t *sealed)

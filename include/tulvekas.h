@@ -15,18 +15,18 @@
  *   - Each stay needs an IV of its own under a key. Two pages under one key and one IV give away the difference of their texts, and help
  *     whoever wants to forge a tag.
  *   - Document 01, which this library was written to, says stay number for the IV, park for suspend, take up for resume, and parked block for
- *     suspended block.
+ *     suspended block. Document 02, which asked for page files, says stay book for such a file.
  *
  * What is proved, and what is not
  *   - Proved of every call, for every length and every content: the number that it answers; each byte that it writes; that every other byte of
  *     the buffers lent to it stays as it was; that it ends, and stays inside those buffers. Ciphertext and tag are those of definitions that
- *     render the paper, by pieces as well; a session resumed is the one suspended; a trace finds the IV and mode that led to a state, and 6
- *     exactly if none did. docs/PROMISES.md has the statements, and what they assume.
+ *     render the paper, by pieces and in a page file as well; a session resumed is the one suspended; a trace finds the IV and mode that led
+ *     to a state, and 6 exactly if none did. docs/PROMISES.md has the statements, and what they assume.
  *   - Tested: that this page and the code agree. tests/differential compares every call with an implementation in Rust that was written from
  *     the documents, and the declarations and numbers below with those that the tests use.
- *   - Measured: the stack. tests/differential measures each call at six sizes of page and finds none that takes more than 16 KiB.
+ *   - Measured: the stack. tests/differential measures each call at six sizes of page, or of file, and finds none that takes more than 16 KiB.
  *   - Read off the code: no function calls itself, directly or by way of others; none claims memory or has a variable that outlives the call;
- *     tulvekas_open compares all 16 bytes of the tag before it writes a byte.
+ *     tulvekas_open and tulvekas_file_open compare all 16 bytes of the tag before they write a byte.
  */
 #ifndef TULVEKAS_H
 #define TULVEKAS_H
@@ -47,10 +47,14 @@ extern "C" {
 #define TULVEKAS_SUSPENDED_BYTES 512 /* a suspended block; secret too */
 #define TULVEKAS_STATE_BYTES 112     /* a cipher state: bytes 16 to 127 of a suspended block */
 #define TULVEKAS_STATE_AT 16
+#define TULVEKAS_PAGE_BYTES 512      /* a page of a page file */
+#define TULVEKAS_STAY_BYTES 12       /* a stay in a page file: with a page number of 4 bytes it is an IV */
+#define TULVEKAS_LENGTH_BYTES 8      /* the length of the text that tulvekas_file_open wrote */
 
 /* Limits. */
 #define TULVEKAS_MOST_DATA 65535     /* bytes of associated data of a page or session */
 #define TULVEKAS_MOST_TEXT 1048576   /* bytes of text */
+#define TULVEKAS_MOST_PAGE_TEXT 474  /* bytes of text of a page in a page file */
 #define TULVEKAS_MOST_BLOCKS 65538   /* blocks of keystream */
 #define TULVEKAS_LAST_DAY 73048      /* 31 December 2199; days count from 1 January 2000 as 0 */
 #define TULVEKAS_KEPT_DAYS 548       /* that a page is kept behind its departure */
@@ -58,8 +62,9 @@ extern "C" {
 /* What a call answers. */
 #define TULVEKAS_ACCEPTED 0
 #define TULVEKAS_KEY_LENGTH 1      /* key not 32 bytes */
-#define TULVEKAS_IV_LENGTH 2       /* IV not 16 bytes */
-#define TULVEKAS_TOO_LONG 3        /* associated data over 65,535 bytes or text over 1,048,576, counted over the session */
+#define TULVEKAS_IV_LENGTH 2       /* IV not 16 bytes; of a page file: stay not 12 bytes */
+#define TULVEKAS_TOO_LONG 3        /* associated data over 65,535 bytes or text over 1,048,576, counted over the session; of a page file:
+                                    * text over 474 bytes */
 #define TULVEKAS_SHORT_OUTPUT 4    /* a lent buffer is shorter than what must be written */
 #define TULVEKAS_BAD_TAG 5         /* the tag is not the page's */
 #define TULVEKAS_NO_ORIGIN 6       /* no IV and mode lead to this state; at resume, none in sealed mode */
@@ -69,6 +74,8 @@ extern "C" {
 #define TULVEKAS_TAG_LENGTH 10     /* tag not 16 bytes */
 #define TULVEKAS_MALFORMED 11      /* the input of the program `seal` is malformed; no call here gives it */
 #define TULVEKAS_DAY_RANGE 12      /* a day outside 0 to 73,048 */
+#define TULVEKAS_BAD_FILE 13       /* a page file's length, a place in it, a stored length, a stored day or the padding is not as it must be */
+#define TULVEKAS_BAD_STAY 14       /* the stay lacks the page, or its pages do not run 0, 1, 2 in file order, or their days differ */
 
 /* ---- whole pages
  *
@@ -189,6 +196,55 @@ uint64_t tulvekas_trace(const uint8_t *state, size_t state_len, const uint8_t *k
  * Writes: 1 (kept) or 0 (not) to the first byte of kept.
  * Refuses: 12 (either day), 4 (kept shorter than 1). */
 uint64_t tulvekas_kept(uint64_t today, uint64_t departure, uint8_t *kept, size_t kept_len);
+
+/* ---- page files
+ *
+ * A page file holds the pages of many stays, each with its own tag. It is pages of TULVEKAS_PAGE_BYTES bytes and nothing else; the page at
+ * place i begins at byte 512 * i. A page, numbers low byte first:
+ *
+ *     bytes      what stands there
+ *     0-11       stay
+ *     12-15      page number within the stay
+ *     16-19      departure day, 0 to 73,048
+ *     20-21      text length, 0 to 474
+ *     22-495     ciphertext of the text and of zeros behind it, 474 bytes in all
+ *     496-511    tag
+ *
+ * Bytes 22-511 are the ciphertext and the tag that tulvekas_seal gives for bytes 0-15 as the IV, bytes 0-21 as the associated data, and the text
+ * with its zeros. So stay, page number, day and length can be read without the key, and the tag covers them.
+ *
+ *     tulvekas_file_seal(key, sizeof key, stay, sizeof stay, 0, day, text, sizeof text, place, file, sizeof file)
+ *     tulvekas_file_open(key, sizeof key, stay, sizeof stay, 0, file, sizeof file, opened, sizeof opened, length, sizeof length)
+ *
+ * The rules of a file: its length is a multiple of 512 (0 included); every page's text length is at most 474 and every page's day at most 73,048.
+ * The rules of a stay in it: its pages, in file order, have the numbers 0, 1, 2 and so on, each once and none left out, and all the same day.
+ * Pages of other stays may stand between them. An all-zero page is no gap: it counts as page 0, of day 0 and without text, of the stay of 12 zero
+ * bytes, and zeros are not its tag, but for an accident as rare as a tag that is guessed. So where places are left all zero, that stay is for no guest.
+ *
+ *   - Opening tests the rules of the file in every page, of whatever stay: one length or day out of range anywhere gives 13 for all pages. The
+ *     rules of a stay are tested in the stay that is named, tag and padding in the page that is named. How other stays' pages are ordered and
+ *     dated, and what stands in the ciphertexts and tags of other pages, makes no difference.
+ *   - What sealing does depends on the length of the file and on none of its bytes. The pages of a stay may be sealed in any order of calls: as long
+ *     as one is missing before another, none of that stay opens. A stay whose last pages are missing cannot be told from one that never had
+ *     them.
+ *   - What a caller has to see to: stay and page number are the IV. To seal one page number of one stay twice under one key, with another text or
+ *     another day, uses one IV twice: whoever has both pages has the difference of their texts, and help to forge a tag. So a page that is sealed
+ *     again wants another page number, another stay or another key; where the day of a stay changes, all its pages want another stay or another
+ *     key. Another place is not enough, nor is another day, since neither is part of the IV; nor may tulvekas_seal or tulvekas_begin be given the
+ *     same 16 bytes as IV under that key. */
+
+/* Seals a page into its place in a file. Stay and text may not lie in that file: a stay that is read from it has to be copied out first.
+ * Writes: the 512 bytes of the page at that place. Never another page.
+ * Refuses: 1, 2 (stay not 12 bytes), 3 (text over 474 bytes), 12, 13 (file_len not a multiple of 512, or no such place in the file). */
+uint64_t tulvekas_file_seal(const uint8_t *key, size_t key_len, const uint8_t *stay, size_t stay_len, uint32_t page, uint64_t day,
+                            const uint8_t *text, size_t text_len, uint64_t place, uint8_t *file, size_t file_len);
+
+/* Opens the page of a stay with a page number, wherever in the file it stands. An out of 474 bytes is long enough for every page.
+ * Writes: the text, as many bytes as its stored length, to the front of out; that length, 8 bytes low byte first, to the front of length.
+ * Refuses: 1, 2 (stay not 12 bytes), 13 (a rule of the file), 14 (no such page, or a rule of its stay), 4 (out shorter than the page's stored
+ * length), 5, 13 (the text has other bytes than zeros behind its stored length), 4 (length shorter than 8 bytes). */
+uint64_t tulvekas_file_open(const uint8_t *key, size_t key_len, const uint8_t *stay, size_t stay_len, uint32_t page, const uint8_t *file,
+                            size_t file_len, uint8_t *out, size_t out_len, uint8_t *length, size_t length_len);
 
 #ifdef __cplusplus
 }

@@ -1,3 +1,4 @@
 pub mod CipherThroughC
+pub mod FilesThroughC
 pub mod OnBytes
 pub mod ThroughC

@@ -35,6 +35,7 @@ use Rattle.tulvekas.proofs.SessionAnswers.{begin-right}
 use Rattle.claims_c.specs.Lists.{left, Buffers, CCall, c-call, c-calls, c-after, below}
 use Rattle.claims_c.specs.ThroughC.{Stands, ResumesThroughC, TracesThroughC, ThroughC}
 use Rattle.claims_c.proofs.CipherThroughC.{keystream, tells, traces, seals}
+use Rattle.claims_c.proofs.FilesThroughC.{opens-file}
 use Rattle.claims_c.proofs.OnBytes.{stored, bytes, stands, data-left, text-left, answered, resumed-left, resumed-iv, resumed-fresh, sized-at}
 
 -- ---- lists of them
@@ -153,6 +154,7 @@ through-c =
       stands = λ key iv l session room cs. stands-after key iv l session room cs;
       resumed = λ key iv l session room cs out room-512. resumes key iv l session room cs out room-512;
       seals = seals;
+      opens-file = opens-file;
       keystream = keystream;
       traces = traces;
       names = λ key iv l session room cs out room-512. names key iv l session room cs out room-512;

@@ -4,7 +4,7 @@ use mathlib.Core.Path.{_≡_}
 use mathlib.Core.List.{List, _∷_, _++_}
 use lib.ListN.{length, take, drop}
 use Rattle.scope.specs.Refusals.{granted}
-use Rattle.words.specs.Bytes.{part}
+use Rattle.words.specs.Bytes.{little, part}
 use Rattle.cipher.specs.Run.{forward, run-number, run-part}
 use Rattle.start.specs.Start.{Mode.sealed, start, start-number}
 use Rattle.start.specs.Leads.{Traced, Traced.origin, Traced.refused, Traces}
@@ -16,8 +16,11 @@ use Rattle.suspend.specs.Walk.{resume-call}
 use Rattle.claims.specs.Lists.{Bytes, after}
 use Rattle.claims.specs.Claims.{Keyed}
 use Rattle.page.specs.Calls.{seal-number, seal-out, seal-tag}
+use Rattle.page_file.specs.Calls as Files
+use Rattle.page_file.specs.Calls.{Opened, open-out, open-answer}
 use Rattle.tulvekas.specs.Order.{next}
 use Rattle.tulvekas.specs.Pages.{seal-answer, seal-writes, seal-writes-tag}
+use Rattle.tulvekas.specs.Files.{file-open-answer, file-open-writes, file-open-length}
 use Rattle.tulvekas.specs.SessionBytes.{session-bytes, session-in}
 use Rattle.tulvekas.specs.Sessions.{data-answer, text-answer, text-writes, finish-answer, finish-writes, suspend-answer, suspend-writes, resume-answer, resume-writes}
 use Rattle.tulvekas.specs.Cipher.{mode-named, fitting, keystream-answer, keystream-writes, mode-byte, trace-of-bytes, trace-answer, trace-iv, trace-sealed}
@@ -58,6 +61,11 @@ TracesThroughC s key n a =
     (iv sb : List ℕ) → 16 ≤ length iv → 1 ≤ length sb
     → Told a iv sb (trace-answer (trace-of-bytes s key n) iv sb) (trace-iv (trace-of-bytes s key n) iv sb) (trace-sealed (trace-of-bytes s key n) iv sb)
 
+-- what C is told of an answer to open from a page file, with room for the length: the number, and what stands in the length's buffer
+abbrev pub ToldOpened : Opened → (len : List ℕ) → ℕ → (len′ : List ℕ) → Type 0
+ToldOpened (Files.Opened.written k) len n len′ = (n ≡ 0) × (len′ ≡ little 8 k ++ drop 8 len)
+ToldOpened (Files.Opened.refused k) len n len′ = (n ≡ k) × (len′ ≡ len)
+
 pub record ThroughC : Type 0 where
   -- Through C every list of calls leaves the bytes of the session that the same list leaves below, whatever stood in them before.
   pub stands : (key iv : Bytes) → Keyed key iv → (session : List ℕ) → length session ≡ 216 → (cs : List CCall)
@@ -71,6 +79,10 @@ pub record ThroughC : Type 0 where
       → (seal-answer key iv ad text out tag ≡ seal-number key iv ad text out)
       × (seal-writes key iv ad text out tag ≡ seal-out key iv ad text out)
       × (seal-writes-tag key iv ad text out tag ≡ granted (seal-number key iv ad text out) (seal-tag key iv ad text out ++ drop 16 tag) tag)
+  -- With room for the length, open from a page file tells what that open below answers, and writes what it does; seal into one is the very call below.
+  pub opens-file : (key stay : List ℕ) (n : ℕ) (file out len : List ℕ) → 8 ≤ length len
+      → ToldOpened (open-answer key stay n file (length out)) len (file-open-answer key stay n file out len) (file-open-length key stay n file out len)
+      × (file-open-writes key stay n file out len ≡ open-out key stay n file out)
   -- Keystream answers and writes what start and a run forward of as many whole blocks as fit do.
   pub keystream : (key iv : Bytes) (mode : ℕ) (out : List ℕ)
       → let blocks = run-part forward (start (key .list) (iv .list) (mode-named mode)) (length out) (fitting out) in

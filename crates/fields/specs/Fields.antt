@@ -1,10 +1,15 @@
--- Fields of a block of bytes: whether a part is all zero, and the check (document 01, "Sessions and parking"). Numbers are low byte
+-- Fields of a block of bytes: whether tests of it all hold, whether a part is all zero, and the check (document 01, "Sessions and parking"). Numbers are low byte
 -- first, as `number` and `little` of `words` have them, and a part is `part` of `words`. What stands in which part is said where a block is laid out.
 use Prim.Native.Nat.{ℕ, _+_, _%_, _^_}
 use mathlib.Core.Bool.{Bool, true, _&&_}
 use mathlib.Core.List.{List, [], _∷_}
 use lib.Dec.{eqb}
 use Rattle.words.specs.Bytes.{numbers}
+
+-- whether all tests hold
+unfoldable pub every : List Bool → Bool
+every [] = true
+every (b ∷ l) = b && every l
 
 -- whether all bytes are zero
 unfoldable pub all-zero : List ℕ → Bool

@@ -1,10 +1,38 @@
-// Numbers, cells, zeros and the check at a place of a slice: what blocks of 512 bytes are written and read with.
+// Bytes, numbers, cells, zeros and the check at a place of a slice: what blocks of 512 bytes are written and read with.
 ghost use mathlib.Core.Path.{_≡_};
+ghost use mathlib.Core.List.{_++_};
 ghost use Prim.Native.Nat.{_+_, _^_, _≤_, _<_};
-ghost use lib.ListN.{length};
+ghost use lib.ListN.{length, take, drop};
 ghost use lib.Seq.{sets};
+ghost use Rattle.words.specs.Bytes;
 ghost use Rattle.words.specs.Bytes.{little, number, numbers, part};
 ghost use Rattle.fields.specs.Fields;
+
+// The first k bytes of s to the front of an output. Every other byte stays.
+pub fn copy(s: &[u8], k: usize, out: &mut [u8])
+    requires { ⌜ (k ≤ length (now s)) × (k ≤ length (now out)) ⌝ }
+    ensures { λ _. ⌜ now (out .exit) ≡ take k (now (s .entry)) ++ drop k (now (out .entry)) ⌝ }
+{
+    let mut i: usize = 0;
+    while i < k {
+        out[i] = s[i];
+        i += 1;
+    }
+}
+
+// Whether t stands at a place of s. Each of its bytes is looked at.
+pub fn same(s: &[u8], at: usize, t: &[u8]) -> bool
+    requires { ⌜ at + length (now t) ≤ length (now s) ⌝ }
+    ensures { λ r. ⌜ r ≡ Bytes.same (part at (length (now (t .entry))) (now (s .entry))) (now (t .entry)) ⌝ }
+{
+    let mut all = true;
+    let mut i: usize = 0;
+    while i < t.len() {
+        all = all & (s[at + i] == t[i]);
+        i += 1;
+    }
+    all
+}
 
 // The k low bytes of n, low byte first, at a place. Every other byte stays.
 pub fn put(out: &mut [u8], at: usize, k: usize, n: u64)

@@ -7,7 +7,8 @@ use borrow.Author.Tests.{eqb-true, leb-true}
 use lib.ListN.{length, getD}
 use Rattle.scope.specs.Limits.{most-text}
 use Rattle.layout.specs.Block.{read}
-use Rattle.layout.specs.Rules.{rules, every, well-laid}
+use Rattle.fields.specs.Fields.{every}
+use Rattle.layout.specs.Rules.{rules, well-laid}
 
 every-at : (l : List Bool) → every l ≡ true → (i : ℕ) → getD l i true ≡ true
 unfolding every

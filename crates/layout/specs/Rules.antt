@@ -1,14 +1,14 @@
 -- The layout rules of a suspended session's block (document 01, "Sessions and parking"), each with the words that it renders. A block that
 -- breaks one is refused with 8.
 use Prim.Native.Nat.{ℕ, _%_}
-use mathlib.Core.Bool.{Bool, true, not, _&&_, _||_}
+use mathlib.Core.Bool.{Bool, not, _||_}
 use mathlib.Core.List.{List, [], _∷_}
 use lib.Dec.{eqb, leb}
 use lib.ListN.{length, drop}
 use Rattle.scope.specs.Limits.{most-data, most-text}
 use Rattle.scope.specs.Refusals.{pick}
 use Rattle.words.specs.Bytes.{number, part}
-use Rattle.fields.specs.Fields.{all-zero, check}
+use Rattle.fields.specs.Fields.{every, all-zero, check}
 use Rattle.layout.specs.Block.{read}
 
 -- "the phase's length"
@@ -35,10 +35,6 @@ rules b =
     -- "508-511 check"
     ∷ eqb (number (part 508 4 b)) (check b)
     ∷ []
-
-unfoldable pub every : List Bool → Bool
-every [] = true
-every (b ∷ l) = b && every l
 
 -- whether bytes obey all of them
 abbrev pub well-laid : List ℕ → Bool

@@ -42,7 +42,7 @@ module _ (key iv d : List ℕ) (key-long : length key ≡ 32) (iv-long : length 
     seal-gives = rw seal-accepted
 
   module _ (c tag out : List ℕ) (tag-long : length tag ≡ 16) (cipher-fits : length c ≤ most-text) (room : length c ≤ length out) where
-    open-by-tag : open-number key iv d c tag out ≡ refuse (not (same tag (tag-for key iv d c))) bad-tag 0
+    pub open-by-tag : open-number key iv d c tag out ≡ refuse (not (same tag (tag-for key iv d c))) bad-tag 0
     unfolding open-number
     open-by-tag =
         rw (

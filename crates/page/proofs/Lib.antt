@@ -9,3 +9,4 @@ pub mod Answers
 pub mod Refusing
 pub mod Checking
 pub mod Reached
+pub mod TagLength

@@ -1,4 +1,4 @@
--- The limits of document 01, named once. Lengths are in bytes, counts in blocks of 16 bytes, days in days.
+-- The limits of documents 01 and 02, named once. Lengths are in bytes, counts in blocks of 16 bytes, days in days.
 use Prim.Native.Nat.{ℕ}
 
 abbrev pub most-data : ℕ
@@ -10,6 +10,10 @@ most-text = 1048576
 -- the highest block count: 2 and the blocks of the longest text
 abbrev pub most-blocks : ℕ
 most-blocks = 65538
+
+-- the most text in a page of a page file: its 512 bytes but for header and tag
+abbrev pub most-page-text : ℕ
+most-page-text = 474
 
 -- the last day; days count from 1 January 2000 as 0
 abbrev pub last-day : ℕ

@@ -1,4 +1,5 @@
--- Document 01, "What reception says when it turns you away": the number of each refusal, and how a call's order of refusals is written.
+-- Document 01, "What reception says when it turns you away", and document 02 ("Numbers from 13 on join document 01's table and rules"): the number
+-- of each refusal, and how a call's order of refusals is written.
 -- A call's number is 0 where it is accepted.
 use Prim.Native.Nat.{ℕ}
 use mathlib.Core.Bool.{Bool, true, false}
@@ -21,11 +22,11 @@ granted n given kept = pick (eqb n 0) given kept
 abbrev pub key-length : ℕ
 key-length = 1
 
--- 2 wrong stay number: the IV is not 16 bytes
+-- 2 wrong stay number: the IV is not 16 bytes; for a page file (document 02), the stay is not 12
 abbrev pub iv-length : ℕ
 iv-length = 2
 
--- 3 book full: associated data over 65,535 bytes or text over 1,048,576, counted over the session
+-- 3 book full: associated data over 65,535 bytes or text over 1,048,576, counted over the session; for a page file, text over 474
 abbrev pub too-long : ℕ
 too-long = 3
 
@@ -64,3 +65,12 @@ malformed = 11
 -- 12 no such day: a day outside 0 to 73,048
 abbrev pub day-range : ℕ
 day-range = 12
+
+-- 13: a page file whose length is no multiple of 512, a place past its end, a stored length over 474, a stored day out of range, or padding that
+-- is not zero
+abbrev pub bad-file : ℕ
+bad-file = 13
+
+-- 14: a stay that lacks the page named, whose pages do not run 0, 1, 2 in file order, or hold different days
+abbrev pub bad-stay : ℕ
+bad-stay = 14

@@ -1,4 +1,4 @@
-// The numbers that document 01 fixes, named once for all crates: its refusals and its limits. The definitions have the same names in
+// The numbers that documents 01 and 02 fix, named once for all crates: their refusals and their limits. The definitions have the same names in
 // specs/.
 
 // Refusals. 0 is the number of an accepted call.
@@ -28,12 +28,19 @@ pub const MALFORMED: u64 = 11;
 
 pub const DAY_RANGE: u64 = 12;
 
+pub const BAD_FILE: u64 = 13;
+
+pub const BAD_STAY: u64 = 14;
+
 // Limits: bytes of data and of text in a session, and blocks drawn.
 pub const MOST_DATA: u64 = 65535;
 
 pub const MOST_TEXT: u64 = 1048576;
 
 pub const MOST_BLOCKS: u64 = 65538;
+
+// Bytes of text in a page of a page file.
+pub const MOST_PAGE_TEXT: usize = 474;
 
 // The last day that days count to, and for how many days after its departure a page is kept.
 pub const LAST_DAY: u64 = 73048;

@@ -2,7 +2,7 @@
 ghost use mathlib.Core.Path.{_≡_};
 ghost use mathlib.Core.List.{_++_};
 ghost use Prim.Native.Nat.{_≤_};
-ghost use lib.ListN.{length, drop};
+ghost use lib.ListN.{length};
 ghost use Rattle.scope.specs.Limits.{most-text};
 ghost use Rattle.words.specs.Bytes.{little};
 ghost use Rattle.aes.specs.Unround.{unsub};
@@ -22,18 +22,6 @@ use session::Session;
 use start::Mode;
 use start::Traced;
 use suspended::Suspended;
-
-// A block to the front of an output. Every other byte stays.
-fn copy(block: [u8; 512], out: &mut [u8])
-    requires { ⌜ 512 ≤ length (now out) ⌝ }
-    ensures { λ _. ⌜ now (out .exit) ≡ block ++ drop 512 (now (out .entry)) ⌝ }
-{
-    let mut i: usize = 0;
-    while i < 512 {
-        out[i] = block[i];
-        i += 1;
-    }
-}
 
 // Document 01's park: writes the session's block and hands the session back as it was. Refused: 7 after finish, 4 where the output has less
 // than 512 bytes.
@@ -62,7 +50,7 @@ pub fn suspend(s: Session, out: &mut [u8]) -> Said
         state: state,
         held: held,
     });
-    copy(block, out);
+    fields::copy(&block, 512, out);
     Said {
         answer: scope::ACCEPTED,
         session: s,

@@ -2,5 +2,6 @@ pub mod Order
 pub mod SessionBytes
 pub mod Sessions
 pub mod Pages
+pub mod Files
 pub mod Cipher
 pub mod Keeping

@@ -1,4 +1,4 @@
-// Document 01's calls for C: numbers and lent bytes only. A slice is a pointer and a length there. Each call answers 0, or the number of the
+// The calls of documents 01 and 02 for C: numbers and lent bytes only. A slice is a pointer and a length there. Each call answers 0, or the number of the
 // refusal, which changes no lent byte; bytes behind what is written stay. Nothing is kept between calls but what the caller was handed: a
 // session is 216 lent bytes. Rust's rule for references holds for C as well: a buffer that a call writes overlaps no other buffer of that call.
 ghost use mathlib.Core.Path.{_≡_};
@@ -12,10 +12,12 @@ ghost use Rattle.ghash.specs.Machine.{bytesOfElement};
 ghost use Rattle.start.specs.Machine.{modeOf};
 ghost use Rattle.session.specs.Machine.{sessionOf};
 ghost use Rattle.page.specs.Calls.{seal-number, open-number, open-out};
+ghost use Rattle.page_file.specs.Calls as Files;
 ghost use Rattle.retention.specs.Keeping.{keeping};
 ghost use Rattle.tulvekas.specs.Order.{next, room, buffer-after};
 ghost use Rattle.tulvekas.specs.SessionBytes.{session-in, Leaves};
 ghost use Rattle.tulvekas.specs.Pages.{seal-answer, seal-writes, seal-writes-tag};
+ghost use Rattle.tulvekas.specs.Files.{file-open-answer, file-open-writes, file-open-length};
 ghost use Rattle.tulvekas.specs.Sessions.{is-session, begin-answer, begin-leaves, data-answer, data-leaves, text-answer, text-leaves, text-writes, finish-answer, finish-leaves, finish-writes, suspend-answer, suspend-writes, resume-answer, resume-leaves, resume-writes};
 ghost use Rattle.tulvekas.specs.Cipher.{mode-named, keystream-answer, keystream-writes, trace-of-bytes, mode-byte, trace-answer, trace-iv, trace-sealed};
 ghost use Rattle.tulvekas.specs.Keeping.{kept-answer, kept-byte};
@@ -37,6 +39,8 @@ const TAG_BYTES: usize = 16;
 const SESSION_BYTES: usize = 216;
 
 const STATE_BYTES: usize = 112;
+
+const LENGTH_BYTES: usize = 8;
 
 // Sixteen bytes to the front of a buffer.
 fn put_block(out: &mut [u8], b: [u8; 16])
@@ -103,6 +107,55 @@ pub extern "C" fn tulvekas_open(
     ensures out { λ _. ⌜ now (out .exit) ≡ open-out (now (key .entry)) (now (iv .entry)) (now (ad .entry)) (now (cipher .entry)) (now (tag .entry)) (now (out .entry)) ⌝ }
 {
     page::open(key, iv, ad, cipher, tag, out)
+}
+
+// ---- page files: document 02's stay books
+
+// Seals page `page` of a stay into its place of the file. Refused: 1, 2 for a stay that is not 12 bytes, 3 for a text over 474, 12, 13.
+#[no_mangle]
+pub extern "C" fn tulvekas_file_seal(
+    key: &[u8],
+    stay: &[u8],
+    page: u32,
+    day: u64,
+    text: &[u8],
+    place: u64,
+    file: &mut [u8],
+) -> u64
+    ensures answer { λ r. ⌜ r ≡ Files.seal-number (now (key .entry)) (now (stay .entry)) day (now (text .entry)) (now (file .entry)) place ⌝ }
+    ensures file { λ _. ⌜ now (file .exit) ≡ Files.seal-file (now (key .entry)) (now (stay .entry)) page day (now (text .entry)) (now (file .entry)) place ⌝ }
+{
+    page_file::seal(key, stay, page, day, text, file, place)
+}
+
+// Opens page `page` of a stay, and writes no byte before nothing is refused: its text, and how many bytes that has, 8 bytes low byte first. Refused: 1, 2
+// for a stay that is not 12 bytes, 13, 14, 4, 5, 13 for padding that is not zero, 4 for the length's buffer.
+#[no_mangle]
+pub extern "C" fn tulvekas_file_open(
+    key: &[u8],
+    stay: &[u8],
+    page: u32,
+    file: &[u8],
+    out: &mut [u8],
+    length: &mut [u8],
+) -> u64
+    ensures answer { λ r. ⌜ r ≡ file-open-answer (now (key .entry)) (now (stay .entry)) page (now (file .entry)) (now (out .entry)) (now (length .entry)) ⌝ }
+    ensures out { λ _. ⌜ now (out .exit) ≡ file-open-writes (now (key .entry)) (now (stay .entry)) page (now (file .entry)) (now (out .entry)) (now (length .entry)) ⌝ }
+    ensures length { λ _. ⌜ now (length .exit) ≡ file-open-length (now (key .entry)) (now (stay .entry)) page (now (file .entry)) (now (out .entry)) (now (length .entry)) ⌝ }
+{
+    let c = page_file::read(key, stay, page, file, out.len());
+    let n = c.answer;
+    if n != 0 {
+        return n;
+    }
+    if length.len() < LENGTH_BYTES {
+        return scope::SHORT_OUTPUT;
+    }
+    let k = c.length;
+    let text = c.text;
+    fields::copy(&text, k, out);
+    fields::put(length, 0, LENGTH_BYTES, k as u64);
+    scope::ACCEPTED
 }
 
 // ---- sessions in bytes

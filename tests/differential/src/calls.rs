@@ -1,4 +1,4 @@
-//! The calls of include/tulvekas.h on slices: document 01's orders, and what C adds to them. A buffer that must be written and is too
+//! The calls of include/tulvekas.h on slices: the documents' orders, and what C adds to them. A buffer that must be written and is too
 //! short gives 4 last; a session, block or state of another length than its own gives 8 where it is read.
 //!
 //! A C session is lent bytes whose contents are not documented. Here it is a [`Session`] beside the length of those bytes.
@@ -7,6 +7,7 @@ use crate::block::Block;
 use crate::cipher::{iv as iv_of, run, Key, Mode, State, MOST_BLOCKS};
 use crate::keeping;
 use crate::page;
+use crate::page_file;
 use crate::refusal::{require, Refusal};
 use crate::session::Session;
 use crate::suspended;
@@ -16,6 +17,8 @@ use crate::trace;
 pub const SESSION_BYTES: usize = 216;
 /// `TULVEKAS_STATE_BYTES`.
 pub const STATE_BYTES: usize = 112;
+/// `TULVEKAS_LENGTH_BYTES`.
+pub const LENGTH_BYTES: usize = 8;
 
 type Answer<T> = Result<T, Refusal>;
 
@@ -124,5 +127,20 @@ pub fn kept(today: u64, departure: u64, kept: &mut [u8]) -> Answer<()> {
     let answer = keeping::kept(today, departure)?;
     room(kept.len(), 1)?;
     kept[0] = u8::from(answer);
+    Ok(())
+}
+
+/// `tulvekas_file_seal`: 1, 2, 3, 12, 13.
+pub fn file_seal(key: &[u8], stay: &[u8], page: u32, day: u64, text: &[u8], place: u64, file: &mut [u8]) -> Answer<()> {
+    page_file::seal(key, stay, page, day, text, place, file)
+}
+
+/// `tulvekas_file_open`: 1, 2, 13, 14, 4, 5, 13 for padding, 4 for the length's buffer.
+pub fn file_open(key: &[u8], stay: &[u8], page: u32, file: &[u8], out: &mut [u8], length: &mut [u8]) -> Answer<()> {
+    let mut text = out.to_vec();
+    let len = page_file::open(key, stay, page, file, &mut text)?;
+    room(length.len(), LENGTH_BYTES)?;
+    out.copy_from_slice(&text);
+    length[..LENGTH_BYTES].copy_from_slice(&(len as u64).to_le_bytes());
     Ok(())
 }

@@ -1,10 +1,10 @@
-//! What a benchmark calls. Keys have 32 bytes, IVs and tags 16, states 112 and suspended blocks 512; each call answers 0 or the number
-//! of a refusal.
+//! What a benchmark calls. Keys have 32 bytes, IVs and tags 16, stays 12, states 112 and suspended blocks 512; each call answers 0 or the
+//! number of a refusal.
 
 use crate::calls::{self, mode};
 use crate::cipher::{run, Key, State};
 use crate::refusal::{number, Refusal};
-use crate::{page, suspended};
+use crate::{page, page_file, suspended};
 use std::slice::{from_raw_parts, from_raw_parts_mut};
 
 /// A pointer with a length of 0 may be anything in C, not so in a slice.
@@ -59,6 +59,26 @@ pub unsafe extern "C" fn reference_seal(
     number(&sealed.map(|made| written(tag, 16).copy_from_slice(&made)))
 }
 
+/// Opens a page; refuses 3, 5.
+///
+/// # Safety
+/// `out` points to `cipher_len` bytes.
+#[no_mangle]
+#[allow(clippy::too_many_arguments)]
+pub unsafe extern "C" fn reference_open(
+    key: *const u8,
+    iv: *const u8,
+    ad: *const u8,
+    ad_len: usize,
+    cipher: *const u8,
+    cipher_len: usize,
+    tag: *const u8,
+    out: *mut u8,
+) -> u64 {
+    let (cipher, tag, out) = (read(cipher, cipher_len), read(tag, 16), written(out, cipher_len));
+    number(&page::open(read(key, 32), read(iv, 16), read(ad, ad_len), cipher, tag, out))
+}
+
 /// The state right after the start, as a suspended block lists it.
 ///
 /// # Safety
@@ -89,4 +109,40 @@ pub unsafe extern "C" fn reference_resume(key: *const u8, block: *const u8, iv: 
         std::hint::black_box(&session);
         written(iv, 16).copy_from_slice(&found);
     }))
+}
+
+/// Seals a page into a page file; refuses 3, 12, 13.
+///
+/// # Safety
+/// `file` points to `file_len` bytes.
+#[no_mangle]
+#[allow(clippy::too_many_arguments)]
+pub unsafe extern "C" fn reference_file_seal(
+    key: *const u8,
+    stay: *const u8,
+    page: u32,
+    day: u64,
+    text: *const u8,
+    text_len: usize,
+    place: u64,
+    file: *mut u8,
+    file_len: usize,
+) -> u64 {
+    number(&page_file::seal(read(key, 32), read(stay, 12), page, day, read(text, text_len), place, written(file, file_len)))
+}
+
+/// Opens a page of a page file; refuses 13, 14, 5.
+///
+/// # Safety
+/// `out` points to 474 bytes.
+#[no_mangle]
+pub unsafe extern "C" fn reference_file_open(
+    key: *const u8,
+    stay: *const u8,
+    page: u32,
+    file: *const u8,
+    file_len: usize,
+    out: *mut u8,
+) -> u64 {
+    number(&page_file::open(read(key, 32), read(stay, 12), page, read(file, file_len), written(out, 474)))
 }

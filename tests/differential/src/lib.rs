@@ -1,8 +1,8 @@
 //! SNOW-V, SNOW-V-GCM and the sealing of guest pages, written from the documents and not from the code of the library under test.
 //!
 //! "The paper" is document 001: Ekdahl, Johansson, Maximov, Yang, "A new SNOW stream cipher called SNOW-V". "Document 01" is the
-//! contract of the library: refusals and their orders, sessions, the suspended block, trace, the keeping rule and the program. Where
-//! they differ about the cipher, the paper decides.
+//! contract of the library: refusals and their orders, sessions, the suspended block, trace, the keeping rule and the program.
+//! "Document 02" is what was asked for later, the page file. Where the first two differ about the cipher, the paper decides.
 //!
 //! Each module renders one part of them, as plainly as it stands there: cells of 16 bits, one clock at a time, GHASH bit by bit.
 //! Nothing here hides the time it takes.
@@ -20,8 +20,10 @@ pub mod ghash;
 pub mod keeping;
 pub mod lfsr;
 pub mod page;
+pub mod page_file;
 pub mod program;
 pub mod refusal;
+pub mod season;
 pub mod session;
 pub mod suspended;
 pub mod trace;

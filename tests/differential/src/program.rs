@@ -46,7 +46,8 @@ fn sealed(input: &[u8]) -> Result<(Vec<u8>, Block), Refusal> {
     Ok((cipher, tag))
 }
 
-fn hex(bytes: &[u8]) -> String {
+/// Two lower-case hex digits for each byte.
+pub(crate) fn hex(bytes: &[u8]) -> String {
     bytes.iter().map(|byte| format!("{byte:02x}")).collect()
 }
 

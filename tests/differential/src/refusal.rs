@@ -1,6 +1,6 @@
-//! The refusal numbers: document 01, "What reception says when it turns you away".
+//! The refusal numbers: document 01, "What reception says when it turns you away", and what document 02 adds to its table.
 
-/// Why a call is refused; the value is document 01's number.
+/// Why a call is refused; the value is the documents' number.
 #[derive(Clone, Copy, Debug, PartialEq, Eq)]
 #[repr(u64)]
 pub enum Refusal {
@@ -28,6 +28,10 @@ pub enum Refusal {
     Malformed = 11,
     /// "no such day": day outside 0 to 73,048.
     DayRange = 12,
+    /// A page file's length, a place in it, a stored length, a stored day or the padding is not as document 02 has it (S-1).
+    BadFile = 13,
+    /// The stay named lacks the page named, or its pages do not run 0, 1, 2 in file order, or they hold different days (S-1).
+    BadStay = 14,
 }
 
 /// What a call answers: 0 if accepted, else the number of the refusal.

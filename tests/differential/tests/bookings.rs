@@ -1,11 +1,11 @@
-//! The reference alone against document 01's trial bookings, and both directions of the cipher against each other.
+//! The reference alone against document 01's trial bookings and document 02's page file, and both directions of the cipher against each other.
 
 use reference::block::plus;
 use reference::cipher::{run, Key, Mode, State, MOST_BLOCKS};
 use reference::lfsr::{alpha, alpha_inverse, beta, beta_inverse, clock, clock_back};
 use reference::refusal::Refusal;
 use reference::session::Session;
-use reference::{aes, ghash, keeping, page};
+use reference::{aes, ghash, keeping, page, page_file};
 
 const ZERO: State = State { a: [0; 16], b: [0; 16], r1: [0; 16], r2: [0; 16], r3: [0; 16] };
 
@@ -150,4 +150,32 @@ fn kept_days() {
     assert_eq!(keeping::kept(0, 73_048), Ok(true));
     assert_eq!(keeping::kept(73_049, 0), Err(Refusal::DayRange));
     assert_eq!(keeping::kept(0, 73_049), Err(Refusal::DayRange));
+}
+
+/// The bytes of a page as S-1 lists them, and a page opened by stay and page number, not by place.
+#[test]
+fn page_file_layout() {
+    let (key, stay, text): ([u8; 32], [u8; 12], &[u8]) = ([7; 32], std::array::from_fn(|i| i as u8 + 1), b"one guest");
+    let mut file = [0; 1024];
+    assert_eq!(page_file::seal(&key, &stay, 0, 73_048, text, 1, &mut file), Ok(()));
+    assert_eq!(file[..512], [0; 512]);
+    let page = &file[512..];
+    assert_eq!(page[..22], [1, 2, 3, 4, 5, 6, 7, 8, 9, 10, 11, 12, 0, 0, 0, 0, 0x58, 0x1d, 0x01, 0x00, 9, 0]);
+    let mut padded = [0xff; 474];
+    assert_eq!(page::open(&key, &page[..16], &page[..22], &page[22..496], &page[496..], &mut padded), Ok(()));
+    assert_eq!(padded[..9], *text);
+    assert_eq!(padded[9..], [0; 465]);
+
+    let mut out = [0xee; 10];
+    assert_eq!(page_file::open(&key, &stay, 0, &file, &mut out), Ok(9));
+    assert_eq!(out, *b"one guest\xee");
+    assert_eq!(page_file::open(&key, &stay, 1, &file, &mut out), Err(Refusal::BadStay));
+    assert_eq!(page_file::open(&key, &[0; 12], 0, &file, &mut out), Err(Refusal::BadTag));
+    assert_eq!(page_file::open(&key, &stay, 0, &[], &mut out), Err(Refusal::BadStay));
+    assert_eq!(page_file::open(&key, &stay, 0, &file[1..], &mut out), Err(Refusal::BadFile));
+    assert_eq!(page_file::open(&key, &stay, 0, &file, &mut out[..8]), Err(Refusal::ShortOutput));
+    file[16] = 1;
+    assert_eq!(page_file::open(&key, &stay, 0, &file, &mut out), Ok(9));
+    file[18] = 2;
+    assert_eq!(page_file::open(&key, &stay, 0, &file, &mut out), Err(Refusal::BadFile));
 }

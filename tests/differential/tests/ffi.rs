@@ -1,9 +1,12 @@
 //! What a benchmark calls gives what the modules give.
 
 use reference::cipher::{iv, Key, Mode, State};
-use reference::ffi::{reference_keystream, reference_resume, reference_seal, reference_start, reference_trace};
+use reference::ffi::{
+    reference_file_open, reference_file_seal, reference_keystream, reference_open, reference_resume, reference_seal, reference_start,
+    reference_trace,
+};
 use reference::session::Session;
-use reference::{page, suspended};
+use reference::{page, page_file, suspended};
 
 const KEY: [u8; 32] = [0x5a; 32];
 const IV: [u8; 16] = [0xa5; 16];
@@ -42,6 +45,11 @@ fn seal_and_resume() {
     let mut whole = [0; 39];
     assert_eq!(page::seal(&KEY, &IV, &ad, &text, &mut whole), Ok(tag));
     assert_eq!(cipher, whole);
+    let mut opened = [0; 39];
+    let (c, g) = (cipher.as_ptr(), tag.as_ptr());
+    let open = |data: usize, out: *mut u8| unsafe { reference_open(KEY.as_ptr(), IV.as_ptr(), a, data, c, 39, g, out) };
+    assert_eq!((open(20, opened.as_mut_ptr()), open(21, opened.as_mut_ptr())), (5, 0));
+    assert_eq!(opened, text);
 
     let mut session = Session::begin(&KEY, &IV).unwrap();
     session.text(&text, &mut whole).unwrap();
@@ -51,4 +59,20 @@ fn seal_and_resume() {
     assert_eq!(found, IV);
     block[1] = 1;
     assert_eq!(unsafe { reference_resume(KEY.as_ptr(), block.as_ptr(), found.as_mut_ptr()) }, 8);
+}
+
+#[test]
+fn page_file_sealed_and_opened() {
+    let (text, stay) = ([2; 474], [3; 12]);
+    let (mut file, mut whole, mut opened) = ([0; 1024], [0; 1024], [0; 474]);
+    let seal = |file: &mut [u8], day| unsafe {
+        reference_file_seal(KEY.as_ptr(), stay.as_ptr(), 0, day, text.as_ptr(), 474, 1, file.as_mut_ptr(), 1024)
+    };
+    assert_eq!(seal(&mut file, 9_000), 0);
+    assert_eq!(page_file::seal(&KEY, &stay, 0, 9_000, &text, 1, &mut whole), Ok(()));
+    assert_eq!(file, whole);
+    assert_eq!(seal(&mut file, 73_049), 12);
+    let mut open = |page| unsafe { reference_file_open(KEY.as_ptr(), stay.as_ptr(), page, file.as_ptr(), 1024, opened.as_mut_ptr()) };
+    assert_eq!((open(1), open(0)), (14, 0));
+    assert_eq!(opened, text);
 }

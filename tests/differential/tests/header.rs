@@ -1,13 +1,13 @@
 //! The declarations and numbers that the tests use are those of include/tulvekas.h, and none of its calls is left out. The calls that it shows
-//! are made by the example, and its days are those of the calendar.
+//! are made by the examples, and its days are those of the calendar.
 
 use reference::refusal::Refusal;
-use reference::{calls, cipher, keeping, page, suspended};
+use reference::{calls, cipher, keeping, page, page_file, suspended};
 use std::collections::BTreeMap;
 
 const HEADER: &str = include_str!("../../../include/tulvekas.h");
 const DECLARATIONS: &str = include_str!("differential/library.rs");
-const EXAMPLE: &str = include_str!("../../../examples/seal_by_pieces.c");
+const EXAMPLES: [&str; 2] = [include_str!("../../../examples/seal_by_pieces.c"), include_str!("../../../examples/page_file.c")];
 
 /// Each call with its parameters as Rust writes them.
 type Calls = BTreeMap<String, Vec<String>>;
@@ -37,6 +37,7 @@ fn from_c(text: &str) -> String {
         ("const uint8_t", true) => "*const u8",
         ("uint8_t", true) => "*mut u8",
         ("size_t", false) => "usize",
+        ("uint32_t", false) => "u32",
         ("uint64_t", false) => "u64",
         other => panic!("{other:?} in {text}"),
     };
@@ -47,7 +48,7 @@ fn from_c(text: &str) -> String {
 fn calls_are_declared_as_in_the_header() {
     let header = calls_of(&code(HEADER), "uint64_t tulvekas_", from_c);
     let declared = calls_of(DECLARATIONS, "pub fn tulvekas_", str::to_string);
-    assert_eq!(header.len(), 11);
+    assert_eq!(header.len(), 13);
     assert_eq!(declared, header);
 }
 
@@ -69,8 +70,12 @@ fn numbers_are_those_of_the_header() {
         ("SUSPENDED_BYTES", suspended::SUSPENDED_BYTES as u64),
         ("STATE_BYTES", calls::STATE_BYTES as u64),
         ("STATE_AT", 16),
+        ("PAGE_BYTES", page_file::PAGE_BYTES as u64),
+        ("STAY_BYTES", page_file::STAY_BYTES as u64),
+        ("LENGTH_BYTES", calls::LENGTH_BYTES as u64),
         ("MOST_DATA", page::MOST_DATA),
         ("MOST_TEXT", page::MOST_TEXT),
+        ("MOST_PAGE_TEXT", page_file::MOST_PAGE_TEXT as u64),
         ("MOST_BLOCKS", cipher::MOST_BLOCKS),
         ("LAST_DAY", keeping::LAST_DAY),
         ("KEPT_DAYS", keeping::KEPT_DAYS as u64),
@@ -87,6 +92,8 @@ fn numbers_are_those_of_the_header() {
         ("TAG_LENGTH", Refusal::TagLength as u64),
         ("MALFORMED", Refusal::Malformed as u64),
         ("DAY_RANGE", Refusal::DayRange as u64),
+        ("BAD_FILE", Refusal::BadFile as u64),
+        ("BAD_STAY", Refusal::BadStay as u64),
     ]);
     assert_eq!(defined, expected);
 }
@@ -98,13 +105,13 @@ fn words(text: &str) -> String {
 }
 
 #[test]
-fn shown_calls_are_those_of_the_example() {
-    let example = words(EXAMPLE);
+fn shown_calls_are_those_of_the_examples() {
+    let examples = EXAMPLES.map(words);
     let indented = HEADER.lines().filter_map(|line| line.strip_prefix(" *     "));
     let shown: Vec<_> = indented.filter(|line| line.starts_with("tulvekas_") && line.ends_with(')')).collect();
-    assert_eq!(shown.len(), 8);
+    assert_eq!(shown.len(), 10);
     for call in shown {
-        assert!(example.contains(call), "{call}");
+        assert!(examples.iter().any(|example| example.contains(call)), "{call}");
     }
 }
 

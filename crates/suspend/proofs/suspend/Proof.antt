@@ -1,10 +1,12 @@
 -- `suspend::suspend` meets its contract, by the phase and the output's length.
-use mathlib.Core.Path.{refl, sym, ap, _∙_}
+use mathlib.Core.Path.{_≡_, refl, sym, ap, _∙_}
 use mathlib.Core.List.{List, _++_}
 use Prim.Native.Nat.{ℕ}
+use native.Mathlib.Omega.{arith}
 use borrow.Author.Needs.{needs}
 use denote.Ref.{now}
-use lib.ListN.{drop}
+use lib.ListN.{length, drop}
+use lib.Seq.{take-all}
 use Rattle.session.specs.Machine.{sessionOf}
 use Rattle.suspend.specs.Calls.{suspend-call}
 use Rattle.suspend.proofs.Suspending.{finished-number, short-number, accepted-number, finished-out, short-out, accepted-out}
@@ -34,7 +36,7 @@ returns-3 : tie.Need-returns-3
 unfolding suspend-call
 returns-3 c =
     let p = c .before .before in
-    let b = p .before .before in
+    let b = p .before .before .before in
     let e = b .before .before .before in
     let a = e .before .before .before .before .args in
     let s = sessionOf (a .s) in
@@ -42,9 +44,9 @@ returns-3 c =
     let h = e .before .if1 .left in
     let k = e .if2 .left in (
       record { number = sym (accepted-number s out h k); session = refl },
-      p .copy .ensures ∙ ap (λ (l : List ℕ). l ++ drop 512 out) (b .block-of .ensures) ∙ accepted-out s out h k,
+      p .copy .ensures ∙ ap (λ (l : List ℕ). l ++ drop 512 out) (take-all 512 (b .block-of .result) (let n : length (b .block-of .result) ≡ 512 = search needs in omega arith) ∙ b .block-of .ensures) ∙ accepted-out s out h k,
     )
 
 pub suspend-spec : {M : Type 1} → statement M
 suspend-spec =
-    tie.close (tie.spec returns returns-2 (λ c κs. search needs) (λ c κs. search needs) (λ c. search needs) returns-3)
+    tie.close (tie.spec returns returns-2 (λ c κs. search needs) (λ c. search needs) (λ c κs. search needs) (λ c. search needs) returns-3)

@@ -66,4 +66,30 @@ extern "C" {
         sealed_len: usize,
     ) -> u64;
     pub fn tulvekas_kept(today: u64, departure: u64, kept: *mut u8, kept_len: usize) -> u64;
+    pub fn tulvekas_file_seal(
+        key: *const u8,
+        key_len: usize,
+        stay: *const u8,
+        stay_len: usize,
+        page: u32,
+        day: u64,
+        text: *const u8,
+        text_len: usize,
+        place: u64,
+        file: *mut u8,
+        file_len: usize,
+    ) -> u64;
+    pub fn tulvekas_file_open(
+        key: *const u8,
+        key_len: usize,
+        stay: *const u8,
+        stay_len: usize,
+        page: u32,
+        file: *const u8,
+        file_len: usize,
+        out: *mut u8,
+        out_len: usize,
+        length: *mut u8,
+        length_len: usize,
+    ) -> u64;
 }

@@ -10,6 +10,7 @@ mod keeping;
 mod lent;
 mod library;
 mod orders;
+mod page_file;
 mod pages;
 mod random;
 mod sessions;

@@ -1,7 +1,8 @@
 //! Every combination of what a call refuses: the first in its order is the answer.
 
-use crate::tester::{Pair, Tester, SESSION_BYTES};
+use crate::tester::{FileOpen, FileSeal, Pair, Tester, SESSION_BYTES};
 use reference::cipher::{Key, Mode, State};
+use reference::page;
 use reference::suspended::check;
 
 /// The number of the first condition that holds, else 0.
@@ -358,6 +359,115 @@ fn order_of_kept() {
             for kept_len in [0, 1, 2] {
                 let answer = t.kept(today, departure, kept_len).0;
                 t.expect("kept", answer, first(&[(today > 73_048 || departure > 73_048, 12), (kept_len < 1, 4)]));
+            }
+        }
+    }
+    t.done();
+}
+
+const STAY_LENGTHS: [usize; 5] = [12, 0, 11, 13, 16];
+
+#[test]
+fn order_of_file_seal() {
+    let mut t = Tester::new("order of file_seal");
+    let last = 73_048;
+    for key_len in KEY_LENGTHS {
+        for stay_len in STAY_LENGTHS {
+            for text_len in [0, 16, 474, 475, 512] {
+                for day in [0, last, last + 1, 1 << 32, u64::MAX] {
+                    for file_len in [1_024, 0, 511, 513] {
+                        for place in [0, 1, 2, 1 << 32, 1 << 55, u64::MAX] {
+                            if !t.chosen() {
+                                continue;
+                            }
+                            let (key, stay, text) = (t.random.bytes(key_len), t.random.bytes(stay_len), t.random.bytes(text_len));
+                            let (page, file) = (t.random.next() as u32, t.random.bytes(file_len));
+                            let answer = t.file_seal(&FileSeal { key: &key, stay: &stay, page, day, text: &text, place }, &file).0;
+                            let expected = first(&[
+                                (key_len != 32, 1),
+                                (stay_len != 12, 2),
+                                (text_len > 474, 3),
+                                (day > last, 12),
+                                (file_len % 512 != 0 || place >= file_len as u64 / 512, 13),
+                            ]);
+                            t.expect("file_seal", answer, expected);
+                        }
+                    }
+                }
+            }
+        }
+    }
+    t.done();
+}
+
+/// What may be wrong with a page file, 0 and false where nothing is.
+struct Faults {
+    /// 1 its length, 2 a stored length of another stay, 3 a stored day of the stay that is opened.
+    file: u64,
+    /// 1 pages that do not run, 2 different days, 3 a page that is lacking.
+    stay: u64,
+    tag: bool,
+    padding: bool,
+}
+
+/// Two pages of a stay and one of another between them; the faults of tag and padding are those of page 0.
+fn faulty(key: &[u8], stay: &[u8], text: &[u8], faults: &Faults) -> Vec<u8> {
+    let number = if faults.stay == 1 { 2_u32 } else { 1 };
+    let day = if faults.stay == 2 { 9_001_u32 } else { 9_000 };
+    let length = text.len() as u16;
+    let mut padded = [0; 474];
+    padded[..text.len()].copy_from_slice(text);
+    padded[473] = u8::from(faults.padding);
+    let mut file = vec![];
+    for (stay, number, day) in [(stay, 0, 9_000), (&[9; 12], 0, 9_000), (stay, number, day)] {
+        let head = [stay, &number.to_le_bytes(), &u32::to_le_bytes(day), &length.to_le_bytes()].concat();
+        let mut cipher = [0; 474];
+        let tag = page::seal(key, &head[..16], &head, &padded, &mut cipher).unwrap();
+        file.extend([&head[..], &cipher, &tag].concat());
+    }
+    file[511] ^= u8::from(faults.tag);
+    match faults.file {
+        1 => file.push(0),
+        2 => file[512 + 20..512 + 22].copy_from_slice(&475_u16.to_le_bytes()),
+        3 => file[16..20].copy_from_slice(&73_049_u32.to_le_bytes()),
+        _ => {}
+    }
+    file
+}
+
+#[test]
+fn order_of_file_open() {
+    let mut t = Tester::new("order of file_open");
+    let (key, stay, text) = (t.random.array::<32>(), t.random.array::<12>(), t.random.bytes(37));
+    for file in 0..4 {
+        for of_stay in 0..4 {
+            for (tag, padding) in [(false, false), (false, true), (true, false), (true, true)] {
+                let lent = faulty(&key, &stay, &text, &Faults { file, stay: of_stay, tag, padding });
+                for key_len in KEY_LENGTHS {
+                    for stay_len in STAY_LENGTHS {
+                        for out_len in rooms(text.len()) {
+                            for length_len in [8, 0, 7, 9] {
+                                if !t.chosen() {
+                                    continue;
+                                }
+                                let (key, stay) = (&[&key[..], &[0]].concat()[..key_len], &[&stay[..], &[0; 4]].concat()[..stay_len]);
+                                let page = if of_stay == 3 { 2 } else { 0 };
+                                let answer = t.file_open(&FileOpen { key, stay, page, out_len, length_len }, &lent).0;
+                                let expected = first(&[
+                                    (key_len != 32, 1),
+                                    (stay_len != 12, 2),
+                                    (file != 0, 13),
+                                    (of_stay != 0, 14),
+                                    (out_len < text.len(), 4),
+                                    (tag, 5),
+                                    (padding, 13),
+                                    (length_len < 8, 4),
+                                ]);
+                                t.expect("file_open", answer, expected);
+                            }
+                        }
+                    }
+                }
             }
         }
     }

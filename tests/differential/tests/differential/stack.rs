@@ -55,6 +55,15 @@ fn depth(mut made: Made) -> usize {
     STACK - stack.iter().take_while(|byte| **byte == PAINT).count()
 }
 
+/// Makes a call, which must be accepted, and enters its name and its stack.
+fn take(taken: &mut Vec<(&'static str, usize)>, name: &'static str, call: &dyn Fn() -> u64) {
+    let nothing = depth(&mut || {});
+    let mut answer = None;
+    let deep = depth(&mut || answer = Some(call()));
+    assert_eq!(answer, Some(0), "{name}");
+    taken.push((name, deep.saturating_sub(nothing)));
+}
+
 /// The stack of each call on data and text of these lengths, by pieces each in two.
 fn of_a_page(random: &mut Random, data_len: usize, text_len: usize) -> Vec<(&'static str, usize)> {
     let (key, iv) = (random.array::<32>(), random.array::<16>());
@@ -66,14 +75,8 @@ fn of_a_page(random: &mut Random, data_len: usize, text_len: usize) -> Vec<(&'st
     let (s, b, y) = (session.as_mut_ptr(), block.as_mut_ptr(), byte.as_mut_ptr());
     let (mut found, count) = ([0; 16], 2 + m.div_ceil(16) as u64);
     let f = found.as_mut_ptr();
-    let nothing = depth(&mut || {});
     let mut taken = Vec::new();
-    let mut take = |name, call: &dyn Fn() -> u64| {
-        let mut answer = None;
-        let deep = depth(&mut || answer = Some(call()));
-        assert_eq!(answer, Some(0), "{name}");
-        taken.push((name, deep.saturating_sub(nothing)));
-    };
+    let mut take = |name, call: &dyn Fn() -> u64| take(&mut taken, name, call);
     unsafe {
         take("seal", &|| tulvekas_seal(k, 32, v, 16, d, n, x, m, c, m, g, 16));
         take("open", &|| tulvekas_open(k, 32, v, 16, d, n, c, m, g, 16, o, m));
@@ -94,15 +97,36 @@ fn of_a_page(random: &mut Random, data_len: usize, text_len: usize) -> Vec<(&'st
     taken
 }
 
+/// The stack of sealing a page into the last place of a file of so many pages, and of opening it.
+fn of_a_file(random: &mut Random, pages: usize, text_len: usize) -> Vec<(&'static str, usize)> {
+    let (key, stay, text) = (random.array::<32>(), random.array::<12>(), random.bytes(text_len));
+    let (mut file, mut opened, mut length) = (vec![0; 512 * pages], vec![0; text_len], [0; 8]);
+    let (k, s, x, f) = (key.as_ptr(), stay.as_ptr(), text.as_ptr(), file.as_mut_ptr());
+    let (o, l, place) = (opened.as_mut_ptr(), length.as_mut_ptr(), pages as u64 - 1);
+    let mut taken = Vec::new();
+    unsafe {
+        let seal = || tulvekas_file_seal(k, 32, s, 12, 0, 9_000, x, text_len, place, f, 512 * pages);
+        take(&mut taken, "file_seal", &seal);
+        let open = || tulvekas_file_open(k, 32, s, 12, 0, f, 512 * pages, o, text_len, l, 8);
+        take(&mut taken, "file_open", &open);
+    }
+    taken
+}
+
 #[test]
 fn stack_of_each_call() {
     let mut random = Random::new(20_000_101);
     let mut deepest = ("none", 0);
+    let mut taken = Vec::new();
     for (data_len, text_len) in [(0, 0), (5, 9), (16, 16), (21, 39), (1_000, 5_000), (65_535, 1_048_576)] {
-        for (call, bytes) in of_a_page(&mut random, data_len, text_len) {
-            assert!(bytes <= MOST, "{call} takes {bytes} bytes of stack");
-            deepest = if bytes > deepest.1 { (call, bytes) } else { deepest };
-        }
+        taken.extend(of_a_page(&mut random, data_len, text_len));
+    }
+    for (pages, text_len) in [(1, 0), (1, 16), (2, 473), (6, 474), (100, 17), (10_000, 474)] {
+        taken.extend(of_a_file(&mut random, pages, text_len));
+    }
+    for (call, bytes) in taken {
+        assert!(bytes <= MOST, "{call} takes {bytes} bytes of stack");
+        deepest = if bytes > deepest.1 { (call, bytes) } else { deepest };
     }
     println!("stack of each call: at most {} bytes ({})", deepest.1, deepest.0);
 }

@@ -29,6 +29,27 @@ pub struct Pair {
     finished_in: Option<Phase>,
 }
 
+/// What a seal into a page file is given beside the file.
+#[derive(Clone, Copy)]
+pub struct FileSeal<'a> {
+    pub key: &'a [u8],
+    pub stay: &'a [u8],
+    pub page: u32,
+    pub day: u64,
+    pub text: &'a [u8],
+    pub place: u64,
+}
+
+/// What an open of a page in a file is given beside the file.
+#[derive(Clone, Copy)]
+pub struct FileOpen<'a> {
+    pub key: &'a [u8],
+    pub stay: &'a [u8],
+    pub page: u32,
+    pub out_len: usize,
+    pub length_len: usize,
+}
+
 pub struct Tester {
     test: &'static str,
     seed: u64,
@@ -426,5 +447,70 @@ impl Tester {
         let call = format!("kept {today} {departure}");
         self.compare(&call, found, expected, &[(&kept, Left::Bytes(&our_kept))]);
         (found, our_kept)
+    }
+
+    /// Gives the file that is left beside the answer.
+    pub fn file_seal(&mut self, given: &FileSeal, file: &[u8]) -> (u64, Vec<u8>) {
+        let FileSeal { page, day, place, .. } = *given;
+        let (key, stay, text) = (self.lend("key", given.key), self.lend("stay", given.stay), self.lend("text", given.text));
+        let mut file = self.lend("file", file);
+        let mut our_file = file.lent().to_vec();
+        let expected = number(&calls::file_seal(key.lent(), stay.lent(), page, day, text.lent(), place, &mut our_file));
+        let found = unsafe {
+            tulvekas_file_seal(
+                key.read(),
+                key.len(),
+                stay.read(),
+                stay.len(),
+                page,
+                day,
+                text.read(),
+                text.len(),
+                place,
+                file.written(),
+                file.len(),
+            )
+        };
+        let call = format!("file_seal of page {page}, day {day}, place {place}");
+        let lent = [(&key, Left::Unchanged), (&stay, Left::Unchanged), (&text, Left::Unchanged), (&file, Left::Bytes(&our_file))];
+        self.compare(&call, found, expected, &lent);
+        (found, our_file)
+    }
+
+    /// Gives what is left of the output and of the length's buffer beside the answer.
+    pub fn file_open(&mut self, given: &FileOpen, file: &[u8]) -> (u64, Vec<u8>, Vec<u8>) {
+        let page = given.page;
+        let (key, stay, file) = (self.lend("key", given.key), self.lend("stay", given.stay), self.lend("file", file));
+        let (mut out, mut length) = (self.lend_output("out", given.out_len), self.lend_output("length", given.length_len));
+        let (mut our_out, mut our_length) = (out.lent().to_vec(), length.lent().to_vec());
+        let expected = number(&calls::file_open(key.lent(), stay.lent(), page, file.lent(), &mut our_out, &mut our_length));
+        let found = unsafe {
+            tulvekas_file_open(
+                key.read(),
+                key.len(),
+                stay.read(),
+                stay.len(),
+                page,
+                file.read(),
+                file.len(),
+                out.written(),
+                out.len(),
+                length.written(),
+                length.len(),
+            )
+        };
+        self.compare(
+            &format!("file_open of page {page}"),
+            found,
+            expected,
+            &[
+                (&key, Left::Unchanged),
+                (&stay, Left::Unchanged),
+                (&file, Left::Unchanged),
+                (&out, Left::Bytes(&our_out)),
+                (&length, Left::Bytes(&our_length)),
+            ],
+        );
+        (found, our_out, our_length)
     }
 }

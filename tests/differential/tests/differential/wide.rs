@@ -1,5 +1,5 @@
 //! Lengths over 2^32, which a number of 32 bits would confuse with short ones. The buffers are zeros that the system lends on demand;
-//! no call has a reason to touch more of them than their front.
+//! no call has a reason to write more of them than their front, or a page of a file, and only opening a page of a file reads on.
 
 #![cfg(target_pointer_width = "64")]
 
@@ -107,6 +107,7 @@ fn lengths_over_32_bits() {
     }
     accepted(&mut t, &mut written, [&key, &iv, &ad, &text, &cipher, &tag]);
     refused_pieces(&mut t, zeros, w, &key, &iv);
+    page_files(&mut t, zeros, &mut written, &key);
     t.done();
 }
 
@@ -168,6 +169,53 @@ fn refused_pieces(t: &mut Tester, zeros: *const u8, w: *mut u8, key: &[u8], iv: 
         }
         if session != pair.theirs {
             t.fail("data or text", "a refused piece has changed the session".into());
+        }
+    }
+}
+
+/// A page file of more than 2^32 bytes: its last page begins at byte 2^32.
+fn page_files(t: &mut Tester, zeros: *const u8, written: &mut Zeros, key: &[u8]) {
+    const FILE: usize = WIDE + 512;
+    const LAST: u64 = WIDE as u64 / 512;
+    let (stay, text, w) = (t.random.array::<12>(), t.random.bytes(53), written.0);
+    let (k, s, x) = (key.as_ptr(), stay.as_ptr(), text.as_ptr());
+    let (mut page, mut opened, mut length) = ([0; 512], [0; 53], [0; 8]);
+    calls::file_seal(key, &stay, 0, 9_000, &text, 0, &mut page).unwrap();
+    let (p, o, l) = (page.as_ptr(), opened.as_mut_ptr(), length.as_mut_ptr());
+    unsafe {
+        answered(t, "file_seal", tulvekas_file_seal(zeros, WIDE + 32, s, 12, 0, 9_000, x, 53, 0, w, FILE), 1);
+        answered(t, "file_seal", tulvekas_file_seal(k, 32, zeros, WIDE + 12, 0, 9_000, x, 53, 0, w, FILE), 2);
+        answered(t, "file_seal", tulvekas_file_seal(k, 32, s, 12, 0, 9_000, zeros, WIDE + 53, 0, w, FILE), 3);
+        answered(t, "file_seal", tulvekas_file_seal(k, 32, s, 12, 0, 9_000 + WIDE as u64, x, 53, 0, w, FILE), 12);
+        answered(t, "file_seal", tulvekas_file_seal(k, 32, s, 12, 0, 9_000, x, 53, 0, w, WIDE + 511), 13);
+        answered(t, "file_seal", tulvekas_file_seal(k, 32, s, 12, 0, 9_000, x, 53, LAST + 1, w, FILE), 13);
+        answered(t, "file_seal", tulvekas_file_seal(k, 32, s, 12, 0, 9_000, x, 53, WIDE as u64, w, FILE), 13);
+        answered(t, "file_open", tulvekas_file_open(zeros, WIDE + 32, s, 12, 0, p, 512, w, FILE, l, 8), 1);
+        answered(t, "file_open", tulvekas_file_open(k, 32, zeros, WIDE + 12, 0, p, 512, w, FILE, l, 8), 2);
+        answered(t, "file_open", tulvekas_file_open(k, 32, s, 12, 0, zeros, WIDE + 511, w, FILE, l, 8), 13);
+    }
+    written.take_front(t, "a refused call", 0);
+    for place in [0, LAST] {
+        let at = 512 * place as usize;
+        let sealed = unsafe { tulvekas_file_seal(k, 32, s, 12, 0, 9_000, x, 53, place, w, FILE) };
+        answered(t, "file_seal", sealed, 0);
+        let of_file = unsafe { tulvekas_file_open(k, 32, s, 12, 0, w, FILE, o, 53, l, 8) };
+        answered(t, "file_open", of_file, 0);
+        let at_place = unsafe { std::slice::from_raw_parts_mut(w.add(at), 512) };
+        if *at_place != page || opened[..] != text || length != 53_u64.to_le_bytes() {
+            t.fail("file_seal or file_open", "another page or text than expected".into());
+        }
+        at_place.fill(0);
+        written.take_front(t, "file_seal", 0);
+    }
+    unsafe {
+        answered(t, "file_open", tulvekas_file_open(k, 32, s, 12, 0, p, 512, w, WIDE + 3, l, 8), 0);
+        if written.take_front(t, "file_open", 53) != text {
+            t.fail("file_open", "another text than expected".into());
+        }
+        answered(t, "file_open", tulvekas_file_open(k, 32, s, 12, 0, p, 512, o, 53, w, WIDE + 3), 0);
+        if written.take_front(t, "file_open", 8) != length {
+            t.fail("file_open", "another length than expected".into());
         }
     }
 }

@@ -1,0 +1,9 @@
+pub mod Accepting
+pub mod Reading
+pub mod Opening
+pub mod Placing
+pub mod Sealing
+pub mod Others
+pub mod Each
+pub mod Opened
+pub mod Claimed

@@ -1,0 +1,5 @@
+//! What the program `season` must print, by the reference.
+
+fn main() {
+    print!("{}", reference::season::output());
+}
