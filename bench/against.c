@@ -14,7 +14,14 @@ uint64_t before_seal(const uint8_t *, size_t, const uint8_t *, size_t, const uin
 uint64_t before_open(const uint8_t *, size_t, const uint8_t *, size_t, const uint8_t *, size_t, const uint8_t *, size_t, const uint8_t *, size_t, uint8_t *,
                      size_t);
 uint64_t before_keystream(const uint8_t *, size_t, const uint8_t *, size_t, uint64_t, uint8_t *, size_t);
+/* A build whose states lack the count has it beside 112 bytes of registers. */
+#ifdef COUNT_APART
 uint64_t before_trace(const uint8_t *, size_t, const uint8_t *, size_t, uint64_t, uint8_t *, size_t, uint8_t *, size_t);
+#define BEFORE_TRACE(n) before_trace(state, 112, key, 32, n, found, 16, &sealed, 1)
+#else
+uint64_t before_trace(const uint8_t *, size_t, const uint8_t *, size_t, uint8_t *, size_t, uint8_t *, size_t);
+#define BEFORE_TRACE(n) before_trace(state, sizeof state, key, 32, found, 16, &sealed, 1)
+#endif
 uint64_t before_resume(const uint8_t *, size_t, const uint8_t *, size_t, uint8_t *, size_t, uint8_t *, size_t);
 
 #define MIB 1048576
@@ -27,7 +34,8 @@ static const struct row {
 
 enum { ROWS = sizeof rows / sizeof *rows };
 
-static uint8_t key[32], iv[16], text[MIB], out[MIB], tag[16], cipher[MIB], cipher_tag[16], block[512], session[TULVEKAS_SESSION_BYTES], found[16], sealed;
+static uint8_t key[32], iv[16], text[MIB], out[MIB], tag[16], cipher[MIB], cipher_tag[16], block[512], session[TULVEKAS_SESSION_BYTES];
+static uint8_t state[TULVEKAS_STATE_BYTES], found[16], sealed;
 
 static int is(const struct row *r, const char *task)
 {
@@ -47,7 +55,7 @@ static uint64_t call(int now, const struct row *r)
         return now ? tulvekas_open(key, 32, first, 16, NULL, 0, cipher, n, cipher_tag, 16, out, n)
                    : before_open(key, 32, first, 16, NULL, 0, cipher, n, cipher_tag, 16, out, n);
     if (is(r, "trace"))
-        return now ? tulvekas_trace(block + 16, 112, key, 32, n, found, 16, &sealed, 1) : before_trace(block + 16, 112, key, 32, n, found, 16, &sealed, 1);
+        return now ? tulvekas_trace(state, sizeof state, key, 32, found, 16, &sealed, 1) : BEFORE_TRACE(n);
     return now ? tulvekas_resume(key, 32, block, 512, session, sizeof session, found, 16)
                : before_resume(key, 32, block, 512, session, sizeof session, found, 16);
 }
@@ -78,7 +86,8 @@ static void prepare(void)
         text[i] = (uint8_t)(i * 2654435761u >> 13);
     memset(out, 1, sizeof out);
     if (tulvekas_begin(key, 32, iv, 16, session, sizeof session) != 0 || tulvekas_text(session, sizeof session, text, MIB, cipher, MIB) != 0 ||
-        tulvekas_suspend(session, sizeof session, block, 512) != 0 || tulvekas_finish(session, sizeof session, cipher_tag, 16) != 0)
+        tulvekas_suspend(session, sizeof session, block, 512) != 0 || tulvekas_state_of(block, 512, state, sizeof state) != 0 ||
+        tulvekas_finish(session, sizeof session, cipher_tag, 16) != 0)
         exit(1);
 }
 

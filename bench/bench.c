@@ -61,8 +61,8 @@ static const struct row {
 
 #define ROWS (sizeof rows / sizeof *rows)
 
-/* The registers and the suspended blocks after 2 blocks and after 65,538. */
-static uint8_t near_state[112], far_state[112], near_block[512], far_block[512];
+/* The states and the suspended blocks after 2 blocks and after 65,538 in sealed mode; and the state that is walked back from, in plain mode. */
+static uint8_t near_state[TULVEKAS_STATE_BYTES], far_state[TULVEKAS_STATE_BYTES], near_block[512], far_block[512], back_state[TULVEKAS_STATE_BYTES];
 
 static void fail(const char *what, const char *who)
 {
@@ -115,9 +115,9 @@ static int call(const struct peer *p, const struct row *r)
     switch (r->task) {
     case KEYSTREAM: return p->keystream(out, r->size);
     case SEAL: return p->seal(out, tag, r->size);
-    case TRACE: return p->trace(found, r->size == 2 ? near_state : far_state, r->size);
+    case TRACE: return p->trace(found, r->size == 2 ? near_state : far_state);
     case RESUME: return p->resume(found, r->size == 2 ? near_block : far_block);
-    case BACK: return p->back(out, r->size);
+    case BACK: return p->back(out, back_state, r->size);
     case FILE_SEAL: return p->file_seal(out);
     case FILE_OPEN: return p->file_open(out);
     case PAGE_SEAL: return p->page_seal(out, tag);
@@ -177,15 +177,42 @@ static void fill_inputs(void)
     memset(expected, 1, sizeof expected);
 }
 
+/* The state that a start leads to by the paper's algorithm: the registers, and the count of blocks behind them. */
+static void paper_state(int sealed, uint64_t count, uint8_t *state)
+{
+    portable_registers(key, iv, sealed, count, state);
+    memcpy(state + 112, &count, sizeof count);
+}
+
 static void suspend_sessions(void)
 {
+    uint8_t near[TULVEKAS_STATE_BYTES], far[TULVEKAS_STATE_BYTES];
     suspend(near_block, 0);
     suspend(far_block, MOST_TEXT);
-    portable_registers(key, iv, 1, 2, near_state);
-    portable_registers(key, iv, 1, 65538, far_state);
-    if (memcmp(near_block + TULVEKAS_STATE_AT, near_state, sizeof near_state) != 0 ||
-        memcmp(far_block + TULVEKAS_STATE_AT, far_state, sizeof far_state) != 0)
-        fail("the suspended registers are not those of the paper's algorithm", "tulvekas");
+    paper_state(1, 2, near_state);
+    paper_state(1, 65538, far_state);
+    if (tulvekas_state_of(near_block, sizeof near_block, near, sizeof near) != 0 ||
+        tulvekas_state_of(far_block, sizeof far_block, far, sizeof far) != 0 || memcmp(near, near_state, sizeof near) != 0 ||
+        memcmp(far, far_state, sizeof far) != 0)
+        fail("the suspended states are not those of the paper's algorithm", "tulvekas");
+}
+
+/* 65,536 blocks behind a start, and as many back: the start again, with the blocks from the last to the first. */
+static void run_forward(void)
+{
+    enum { BLOCKS = MOST_TEXT / 16 };
+    uint8_t first[TULVEKAS_STATE_BYTES], state[TULVEKAS_STATE_BYTES];
+    paper_state(0, BLOCKS, back_state);
+    if (tulvekas_start(key, sizeof key, iv, sizeof iv, 0, first, sizeof first) != 0)
+        fail("no start", "tulvekas");
+    memcpy(state, first, sizeof state);
+    if (tulvekas_run(state, sizeof state, BLOCKS, 0, expected, sizeof expected) != 0 || memcmp(state, back_state, sizeof state) != 0)
+        fail("the state behind a run is not that of the paper's algorithm", "tulvekas");
+    if (tulvekas_run(state, sizeof state, BLOCKS, 1, out, sizeof out) != 0 || memcmp(state, first, sizeof state) != 0)
+        fail("as many blocks back do not lead to the start", "tulvekas");
+    for (size_t i = 0; i < BLOCKS; i++)
+        if (memcmp(out + 16 * i, expected + 16 * (BLOCKS - 1 - i), 16) != 0)
+            fail("the blocks back are not those forward", "tulvekas");
 }
 
 /* The pages of 250 stays, four to a stay. They are sealed by pieces, so that no call that is counted is made here. */
@@ -238,7 +265,7 @@ static void compare(const struct row *r)
 /* A page with data sealed, opened, and sealed again by pieces. */
 static int sealed_and_opened(void)
 {
-    uint8_t session[TULVEKAS_SESSION_BYTES], block[TULVEKAS_SUSPENDED_BYTES], again[16], kept;
+    uint8_t session[TULVEKAS_SESSION_BYTES], block[TULVEKAS_SUSPENDED_BYTES], state[TULVEKAS_STATE_BYTES], again[16], kept;
     return tulvekas_seal(key, sizeof key, iv, sizeof iv, zeros, 100, text, MOST_TEXT, out, sizeof out, tag, sizeof tag) == 0 &&
            tulvekas_open(key, sizeof key, iv, sizeof iv, zeros, 100, out, MOST_TEXT, tag, sizeof tag, expected, sizeof expected) == 0 &&
            memcmp(expected, text, MOST_TEXT) == 0 && tulvekas_begin(key, sizeof key, iv, sizeof iv, session, sizeof session) == 0 &&
@@ -246,7 +273,9 @@ static int sealed_and_opened(void)
            tulvekas_text(session, sizeof session, text, MOST_TEXT, expected, sizeof expected) == 0 &&
            tulvekas_suspend(session, sizeof session, block, sizeof block) == 0 &&
            tulvekas_finish(session, sizeof session, again, sizeof again) == 0 && memcmp(expected, out, MOST_TEXT) == 0 &&
-           memcmp(again, tag, sizeof tag) == 0 && tulvekas_kept(0, 0, &kept, 1) == 0;
+           memcmp(again, tag, sizeof tag) == 0 && tulvekas_state_of(block, sizeof block, state, sizeof state) == 0 &&
+           tulvekas_start(key, sizeof key, iv, sizeof iv, 1, state, sizeof state) == 0 &&
+           tulvekas_run(state, sizeof state, MOST_TEXT / 16, 0, expected, sizeof expected) == 0 && tulvekas_kept(0, 0, &kept, 1) == 0;
 }
 
 static void *all_calls(void *unused)
@@ -458,6 +487,7 @@ int main(int argc, char **argv)
         return 0;
     }
     suspend_sessions();
+    run_forward();
     fill_file();
     if (argc == 5 && strcmp(argv[1], "once") == 0)
         return once(argv[2], row(argv[3], argv[4]));

@@ -38,10 +38,10 @@ static int ours_seal(uint8_t *out, uint8_t *tag, size_t bytes)
     return tulvekas_seal(key, sizeof key, iv, sizeof iv, NULL, 0, text, bytes, out, bytes, tag, 16) != 0;
 }
 
-static int ours_trace(uint8_t *found, const uint8_t *state, uint64_t count)
+static int ours_trace(uint8_t *found, const uint8_t *state)
 {
     uint8_t sealed;
-    return tulvekas_trace(state, TULVEKAS_STATE_BYTES, key, sizeof key, count, found, 16, &sealed, 1) != 0 || sealed != 1;
+    return tulvekas_trace(state, TULVEKAS_STATE_BYTES, key, sizeof key, found, 16, &sealed, 1) != 0 || sealed != 1;
 }
 
 static int ours_resume(uint8_t *found, const uint8_t *block)
@@ -50,11 +50,11 @@ static int ours_resume(uint8_t *found, const uint8_t *block)
     return tulvekas_resume(key, sizeof key, block, TULVEKAS_SUSPENDED_BYTES, session, sizeof session, found, 16) != 0;
 }
 
-uint64_t measure_run(const uint8_t *key, size_t key_len, const uint8_t *iv, size_t iv_len, uint64_t back, uint8_t *out, size_t out_len);
-
-static int ours_back(uint8_t *out, size_t bytes)
+static int ours_back(uint8_t *out, const uint8_t *state, size_t bytes)
 {
-    return measure_run(key, sizeof key, iv, sizeof iv, 1, out, bytes) != 0;
+    uint8_t moved[TULVEKAS_STATE_BYTES];
+    memcpy(moved, state, sizeof moved);
+    return tulvekas_run(moved, sizeof moved, bytes / 16, 1, out, bytes) != 0;
 }
 
 static int ours_file_seal(uint8_t *into)
@@ -93,10 +93,10 @@ static int hand_seal(uint8_t *out, uint8_t *tag, size_t bytes)
     return 0;
 }
 
-static int hand_trace(uint8_t *found, const uint8_t *state, uint64_t count)
+static int hand_trace(uint8_t *found, const uint8_t *state)
 {
     uint8_t sealed;
-    return same_trace(state, key, count, found, &sealed) != 0 || sealed != 1;
+    return same_trace(state, key, found, &sealed) != 0 || sealed != 1;
 }
 
 static int hand_resume(uint8_t *found, const uint8_t *block)
@@ -148,7 +148,7 @@ static int paper_seal(uint8_t *out, uint8_t *tag, size_t bytes)
 uint64_t reference_keystream(const uint8_t *key, const uint8_t *iv, uint64_t sealed, uint8_t *out, size_t blocks);
 uint64_t reference_seal(const uint8_t *key, const uint8_t *iv, const uint8_t *ad, size_t ad_len, const uint8_t *text, size_t text_len,
                         uint8_t *out, uint8_t *tag);
-uint64_t reference_trace(const uint8_t *state, const uint8_t *key, uint64_t count, uint8_t *iv, uint8_t *sealed);
+uint64_t reference_trace(const uint8_t *state, const uint8_t *key, uint8_t *iv, uint8_t *sealed);
 uint64_t reference_resume(const uint8_t *key, const uint8_t *block, uint8_t *iv);
 uint64_t reference_open(const uint8_t *key, const uint8_t *iv, const uint8_t *ad, size_t ad_len, const uint8_t *cipher, size_t cipher_len,
                         const uint8_t *tag, uint8_t *out);
@@ -166,10 +166,10 @@ static int rust_seal(uint8_t *out, uint8_t *tag, size_t bytes)
     return reference_seal(key, iv, NULL, 0, text, bytes, out, tag) != 0;
 }
 
-static int rust_trace(uint8_t *found, const uint8_t *state, uint64_t count)
+static int rust_trace(uint8_t *found, const uint8_t *state)
 {
     uint8_t sealed;
-    return reference_trace(state, key, count, found, &sealed) != 0 || sealed != 1;
+    return reference_trace(state, key, found, &sealed) != 0 || sealed != 1;
 }
 
 static int rust_resume(uint8_t *found, const uint8_t *block)

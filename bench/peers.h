@@ -21,11 +21,11 @@ struct peer {
     int (*keystream)(uint8_t *out, size_t bytes);
     /* The front of the text sealed, with no associated data. */
     int (*seal)(uint8_t *out, uint8_t *tag, size_t bytes);
-    /* The IV from 112 bytes of registers, or from a suspended block of 512, `count` blocks after the start. */
-    int (*trace)(uint8_t *found, const uint8_t *state, uint64_t count);
+    /* The IV from a state of 120 bytes, or from a suspended block of 512. */
+    int (*trace)(uint8_t *found, const uint8_t *state);
     int (*resume)(uint8_t *found, const uint8_t *block);
-    /* Blocks back from the start. */
-    int (*back)(uint8_t *out, size_t bytes);
+    /* Blocks back from a state that far behind its start. */
+    int (*back)(uint8_t *out, const uint8_t *state, size_t bytes);
     /* A page of 474 bytes of text into the middle of a file of 1,000 pages, the IV being its stay and page number; and the page that stands there in
      * `file` opened. */
     int (*file_seal)(uint8_t *into);

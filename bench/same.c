@@ -780,7 +780,7 @@ static void apply_keystream(struct session *s, const u8 *input, size_t n, u8 *ou
     }
 }
 
-/* ---- the block of 512 bytes and the session's 216 */
+/* ---- the block of 512 bytes, the state's 120 and the session's 224 */
 
 static int blank(const u8 *p, size_t n)
 {
@@ -798,6 +798,12 @@ static int well_laid(const u8 *block)
         sum += load32(block + 4 * i);
     return block[0] <= 1 && ad <= 65535 && text_len <= 1048576 && (block[0] != 0 || text_len == 0) && blank(block + 144 + n, 16 - n) &&
            blank(block + 1, 3) && blank(block + 12, 4) && blank(block + 160, 348) && load32(block + 508) == sum;
+}
+
+/* The count of a state behind so much text. */
+static inline u64 drawn_at(u64 text)
+{
+    return 2 + (text + 15) / 16;
 }
 
 static void load_state(struct state *s, const u8 *p)
@@ -828,13 +834,14 @@ static void store_session(u8 *p, const struct session *s)
     store64(p + 8, s->ad);
     store64(p + 16, s->text);
     store_state(p + 24, &s->state);
+    store64(p + 136, drawn_at(s->text));
     to_block(x, s->h);
-    store(p + 136, x);
-    store(p + 152, s->pad);
-    store(p + 168, s->current);
+    store(p + 144, x);
+    store(p + 160, s->pad);
+    store(p + 176, s->current);
     to_block(x, s->held.acc);
-    store(p + 184, x);
-    memcpy(p + 200, s->held.pending, 16);
+    store(p + 192, x);
+    memcpy(p + 208, s->held.pending, 16);
 }
 
 /* ---- the calls */
@@ -930,12 +937,16 @@ uint64_t same_file_open(const uint8_t *key, const uint8_t *stay, uint32_t number
     return 0;
 }
 
-uint64_t same_trace(const uint8_t *state, const uint8_t *key, uint64_t count, uint8_t *iv, uint8_t *sealed)
+uint64_t same_trace(const uint8_t *state, const uint8_t *key, uint8_t *iv, uint8_t *sealed)
 {
     struct state s;
+    u64 count;
     u32 x[4];
     u8 mode;
     load_state(&s, state);
+    memcpy(&count, state + 112, sizeof count);
+    if (count > 65538)
+        return 9;
     if (trace(&s, key, count, x, &mode) != 0)
         return 6;
     store(iv, x);
@@ -959,7 +970,7 @@ uint64_t same_resume(const uint8_t *key, const uint8_t *block, uint8_t *session,
     s.held.acc = from_block(x);
     memcpy(s.held.pending, block + 144, 16);
     t = s.state;
-    if (trace(&t, key, 2 + (s.text + 15) / 16, x, &mode) != 0 || mode == 0)
+    if (trace(&t, key, drawn_at(s.text), x, &mode) != 0 || mode == 0)
         return 6;
     store(found, x);
     begin(&first, key, found);

@@ -9,7 +9,7 @@ KEY = bytes(range(0x50, 0x60)) + bytes(range(0x0A, 0x100, 0x10))
 # A vector's IV. In use no two pages under one key have the same.
 IV = bytes.fromhex("0123456789abcdeffedcba9876543210")
 
-SESSION_BYTES, SUSPENDED_BYTES, TAG_BYTES, IV_BYTES = 216, 512, 16, 16
+SESSION_BYTES, SUSPENDED_BYTES, TAG_BYTES, IV_BYTES = 224, 512, 16, 16
 BAD_TAG = 5
 
 

@@ -20,10 +20,12 @@
  * What is proved, and what is not
  *   - Proved of every call, for every length and every content: the number that it answers; each byte that it writes; that every other byte of
  *     the buffers lent to it stays as it was; that it ends, and stays inside those buffers. Ciphertext and tag are those of definitions that
- *     render the paper, by pieces and in a page file as well; a session resumed is the one suspended; a trace finds the IV and mode that led
- *     to a state, and 6 exactly if none did. docs/PROMISES.md has the statements, and what they assume.
+ *     render the paper, by pieces and in a page file as well; a session resumed is the one suspended; as many blocks back as forward, or
+ *     forward as back, give the state again where neither run is refused; a trace finds the IV and mode that led to a state, and 6 exactly if
+ *     none did. docs/PROMISES.md has the statements, and what they assume.
  *   - Tested: that this page and the code agree. tests/differential compares every call with an implementation in Rust that was written from
- *     the documents, and the declarations and numbers below with those that the tests use.
+ *     the documents, or from the definitions where these leave a session's bytes open, and the declarations and numbers below with those
+ *     that the tests use.
  *   - Measured: the stack. tests/differential measures each call at six sizes of page, or of file, and finds none that takes more than 16 KiB.
  *   - Read off the code: no function calls itself, directly or by way of others; none claims memory or has a variable that outlives the call;
  *     tulvekas_open and tulvekas_file_open compare all 16 bytes of the tag before they write a byte.
@@ -43,10 +45,9 @@ extern "C" {
 #define TULVEKAS_IV_BYTES 16
 #define TULVEKAS_TAG_BYTES 16
 #define TULVEKAS_BLOCK_BYTES 16      /* of keystream */
-#define TULVEKAS_SESSION_BYTES 216   /* a session between two calls; its contents are secret */
+#define TULVEKAS_SESSION_BYTES 224   /* a session between two calls; its contents are secret */
 #define TULVEKAS_SUSPENDED_BYTES 512 /* a suspended block; secret too */
-#define TULVEKAS_STATE_BYTES 112     /* a cipher state: bytes 16 to 127 of a suspended block */
-#define TULVEKAS_STATE_AT 16
+#define TULVEKAS_STATE_BYTES 120     /* a state: the cipher's registers and their count of blocks; secret too */
 #define TULVEKAS_PAGE_BYTES 512      /* a page of a page file */
 #define TULVEKAS_STAY_BYTES 12       /* a stay in a page file: with a page number of 4 bytes it is an IV */
 #define TULVEKAS_LENGTH_BYTES 8      /* the length of the text that tulvekas_file_open wrote */
@@ -55,7 +56,7 @@ extern "C" {
 #define TULVEKAS_MOST_DATA 65535     /* bytes of associated data of a page or session */
 #define TULVEKAS_MOST_TEXT 1048576   /* bytes of text */
 #define TULVEKAS_MOST_PAGE_TEXT 474  /* bytes of text of a page in a page file */
-#define TULVEKAS_MOST_BLOCKS 65538   /* blocks of keystream */
+#define TULVEKAS_MOST_BLOCKS 65538   /* blocks of keystream, and the highest count of a state */
 #define TULVEKAS_LAST_DAY 73048      /* 31 December 2199; days count from 1 January 2000 as 0 */
 #define TULVEKAS_KEPT_DAYS 548       /* that a page is kept behind its departure */
 
@@ -70,12 +71,13 @@ extern "C" {
 #define TULVEKAS_NO_ORIGIN 6       /* no IV and mode lead to this state; at resume, none in sealed mode */
 #define TULVEKAS_OUT_OF_PHASE 7    /* data behind text, or anything behind finish */
 #define TULVEKAS_BAD_BLOCK 8       /* a suspended block breaks a rule of its layout; a session or state has another length than above */
-#define TULVEKAS_COUNT_TOO_HIGH 9  /* more than 65,538 blocks */
+#define TULVEKAS_COUNT_TOO_HIGH 9  /* more than 65,538 blocks: to be drawn at once, in a state's count, or where a run or a text would lead */
 #define TULVEKAS_TAG_LENGTH 10     /* tag not 16 bytes */
 #define TULVEKAS_MALFORMED 11      /* the input of the program `seal` is malformed; no call here gives it */
 #define TULVEKAS_DAY_RANGE 12      /* a day outside 0 to 73,048 */
 #define TULVEKAS_BAD_FILE 13       /* a page file's length, a place in it, a stored length, a stored day or the padding is not as it must be */
 #define TULVEKAS_BAD_STAY 14       /* the stay lacks the page, or its pages do not run 0, 1, 2 in file order, or their days differ */
+#define TULVEKAS_BEFORE_START 15   /* a run back past the start, where the count is 0 */
 
 /* ---- whole pages
  *
@@ -112,26 +114,28 @@ uint64_t tulvekas_open(const uint8_t *key, size_t key_len, const uint8_t *iv, si
  *
  * A session is TULVEKAS_SESSION_BYTES bytes that the caller keeps and hands to each call, in that length exactly. They hold nothing but the
  * session: they may be copied or moved, and the same session always has the same bytes. Whoever reads them can decrypt the page and make its
- * tag, without the key: wipe them when done. Bytes that no call wrote are answered like a session, with no promise but that. */
+ * tag, without the key: wipe them when done. Bytes that no call wrote are answered like a session, with no promise but that; a session counts the
+ * keystream blocks that it has drawn, and text that would lead that count past 65,538 is refused. In a session that was begun or resumed that never
+ * happens. */
 
 /* Begins a session.
- * Writes: 216 bytes to the front of session.
+ * Writes: 224 bytes to the front of session.
  * Refuses: 1, 2, 4. */
 uint64_t tulvekas_begin(const uint8_t *key, size_t key_len, const uint8_t *iv, size_t iv_len, uint8_t *session, size_t session_len);
 
 /* Takes a piece of associated data, of any length.
  * Writes: the session.
- * Refuses: 8 (session not 216 bytes), 7 (behind a text piece, even an empty one, or behind finish), 3. */
+ * Refuses: 8 (session not 224 bytes), 7 (behind a text piece, even an empty one, or behind finish), 3. */
 uint64_t tulvekas_data(uint8_t *session, size_t session_len, const uint8_t *piece, size_t piece_len);
 
 /* Takes a piece of text, of any length.
  * Writes: piece_len bytes of ciphertext to the front of out, and the session.
- * Refuses: 8 (session not 216 bytes), 7, 3, 4. */
+ * Refuses: 8 (session not 224 bytes), 7, 3, 9 (in no session that was begun or resumed), 4. */
 uint64_t tulvekas_text(uint8_t *session, size_t session_len, const uint8_t *piece, size_t piece_len, uint8_t *out, size_t out_len);
 
 /* Ends a session; every call on it answers 7 from then on.
  * Writes: 16 bytes of tag to the front of tag, and the session.
- * Refuses: 8 (session not 216 bytes), 7, 4. */
+ * Refuses: 8 (session not 224 bytes), 7, 4. */
 uint64_t tulvekas_finish(uint8_t *session, size_t session_len, uint8_t *tag, size_t tag_len);
 
 /* ---- a session suspended and resumed
@@ -157,18 +161,42 @@ uint64_t tulvekas_finish(uint8_t *session, size_t session_len, uint8_t *tag, siz
 
 /* Suspends a session that is not finished. The session goes on as it was.
  * Writes: 512 bytes to the front of block. Never the session.
- * Refuses: 8 (session not 216 bytes), 7, 4. */
+ * Refuses: 8 (session not 224 bytes), 7, 4. */
 uint64_t tulvekas_suspend(const uint8_t *session, size_t session_len, uint8_t *block, size_t block_len);
 
 /* Resumes a session: from the block that tulvekas_suspend wrote and the key that the session began with, the very bytes of that session, and its
  * IV, found by walking the cipher back. In a block that somebody changed, only what breaks a rule or leads to no IV is found out: the hash so
  * far and the bytes not yet hashed are taken as they stand.
- * Writes: 216 bytes to the front of session, 16 to the front of iv.
+ * Writes: 224 bytes to the front of session, 16 to the front of iv.
  * Refuses: 1, 8 (block not 512 bytes, or another of its rules broken), 6, 4 (either buffer). */
 uint64_t tulvekas_resume(const uint8_t *key, size_t key_len, const uint8_t *block, size_t block_len, uint8_t *session, size_t session_len,
                          uint8_t *iv, size_t iv_len);
 
-/* ---- the cipher */
+/* ---- the cipher
+ *
+ * A state is TULVEKAS_STATE_BYTES bytes that the caller keeps and hands to each call, in that length exactly:
+ *
+ *     bytes      what stands there
+ *     0-31       register A: cells a0 to a15, 2 bytes each, low byte first
+ *     32-63      register B: cells b0 to b15
+ *     64-111     R1, R2, R3, 16 bytes each
+ *     112-119    count: how many blocks lie between the start and these registers, low byte first
+ *
+ * Bytes 0-111 are bytes 16-127 of a suspended block. The count travels with the registers: it is 0 at a start, each block forward adds one, each
+ * block back takes one, and a trace reads it there. Every 120 bytes are answered as a state: one whose count is over 65,538 gives 9 in every run and
+ * trace. Whoever reads a state has the keystream before it and behind it, without the key.
+ *
+ * From a suspended block to the IV of its session, and blocks forward and back, with state, found and sealed as arrays of bytes:
+ *
+ *     tulvekas_state_of(block, sizeof block, state, sizeof state)
+ *     tulvekas_trace(state, sizeof state, key, sizeof key, found, sizeof found, sealed, sizeof sealed)
+ *
+ *     tulvekas_start(key, sizeof key, iv, sizeof iv, 0, state, sizeof state)
+ *     tulvekas_run(state, sizeof state, BLOCKS, 0, forward, sizeof forward)
+ *     tulvekas_run(state, sizeof state, BLOCKS, 1, back, sizeof back)
+ *
+ * The last call leaves the state that the start wrote, and back has the blocks of forward, the last one first. examples/states.c makes these
+ * calls. */
 
 /* Gives keystream from block 0 on, as many whole blocks as fit in out.
  * sealed is 0 for plain mode, any other number for sealed mode.
@@ -176,12 +204,29 @@ uint64_t tulvekas_resume(const uint8_t *key, size_t key_len, const uint8_t *bloc
  * Refuses: 1, 2, 9 (more than 65,538 blocks fit). */
 uint64_t tulvekas_keystream(const uint8_t *key, size_t key_len, const uint8_t *iv, size_t iv_len, uint64_t sealed, uint8_t *out, size_t out_len);
 
-/* Finds the one IV and mode that lead to a cipher state under a key after count blocks. The state is bytes 16 to 127 of a suspended block. A
- * session has drawn 2 + (t + 15) / 16 blocks, t being its text length.
- * Writes: 16 bytes to the front of iv; 0 (plain mode) or 1 (sealed mode) to the first byte of sealed.
- * Refuses: 1, 8 (state not 112 bytes), 9 (count over 65,538), 6, 4 (iv shorter than 16, or sealed shorter than 1). */
-uint64_t tulvekas_trace(const uint8_t *state, size_t state_len, const uint8_t *key, size_t key_len, uint64_t count, uint8_t *iv, size_t iv_len,
-                        uint8_t *sealed, size_t sealed_len);
+/* Starts: gives the state before block 0, with a count of 0.
+ * sealed is 0 for plain mode, any other number for sealed mode.
+ * Writes: 120 bytes to the front of state.
+ * Refuses: 1, 2, 4 (state shorter than 120). */
+uint64_t tulvekas_start(const uint8_t *key, size_t key_len, const uint8_t *iv, size_t iv_len, uint64_t sealed, uint8_t *state, size_t state_len);
+
+/* Moves a state by n blocks and gives these, in the order in which they are made: backward the block before the state comes first.
+ * back is 0 for forward, any other number for back.
+ * Writes: 16 * n bytes to the front of out, and the state.
+ * Refuses: 8 (state not 120 bytes), 9 (the count or n over 65,538, in either direction; forward, their sum), 15 (back, n over the count), 4. */
+uint64_t tulvekas_run(uint8_t *state, size_t state_len, uint64_t n, uint64_t back, uint8_t *out, size_t out_len);
+
+/* Finds the one IV and mode that lead to a state under a key, after as many blocks as it counts.
+ * Writes: 16 bytes to the front of iv; 0 (plain mode) or 1 (sealed mode) to the first byte of sealed. Never the state.
+ * Refuses: 1, 8 (state not 120 bytes), 9 (its count over 65,538), 6, 4 (iv shorter than 16, or sealed shorter than 1). */
+uint64_t tulvekas_trace(const uint8_t *state, size_t state_len, const uint8_t *key, size_t key_len, uint8_t *iv, size_t iv_len, uint8_t *sealed,
+                        size_t sealed_len);
+
+/* Gives the state of a suspended block with its count: a session has drawn 2 + (t + 15) / 16 blocks, t being its text length. It takes no key, so
+ * that whether an IV leads there is for tulvekas_trace to say.
+ * Writes: 120 bytes to the front of state.
+ * Refuses: 8 (block not 512 bytes, or another of its rules broken), 4 (state shorter than 120). */
+uint64_t tulvekas_state_of(const uint8_t *block, size_t block_len, uint8_t *state, size_t state_len);
 
 /* ---- keeping
  *

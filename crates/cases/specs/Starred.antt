@@ -44,7 +44,7 @@ starred =
     -- round of sixteen 00 is sixteen 63
     ∷ (round (replicate 16 0x00) ≡ replicate 16 0x63)
     -- all-zero state: blocks all 00, all 63, all a5
-    ∷ (zs forward 3 blank ≡ replicate 16 0x00 ∷ replicate 16 0x63 ∷ replicate 16 0xa5 ∷ [])
+    ∷ (zs forward 3 (blank .registers) ≡ replicate 16 0x00 ∷ replicate 16 0x63 ∷ replicate 16 0xa5 ∷ [])
     -- 0xffffffff + 1 in the low word is 0, the next word unchanged (and so are the others)
     ∷ ((b c d : ℕ) → b < 2 ^ 32 → c < 2 ^ 32 → d < 2 ^ 32
     → littles 4 (0xffffffff ∷ b ∷ c ∷ d ∷ []) ⊞ littles 4 (1 ∷ 0 ∷ 0 ∷ 0 ∷ []) ≡ littles 4 (0 ∷ b ∷ c ∷ d ∷ []))

@@ -2,9 +2,12 @@ pub mod Inverse
 pub mod Moves
 pub mod Halves
 pub mod Typed
+pub mod Counting
+pub mod Stepping
 pub mod Running
 pub mod LentAgain
 pub mod FrontPart
 pub mod PartHanded
 pub mod StepsBack
+pub mod CountedSteps
 pub mod Standing

@@ -1,4 +1,4 @@
--- What the loop of a run has made after i turns, and the three answers of a run.
+-- What the loop of a run has made after i turns, and the answers of a run.
 use mathlib.Core.Path.{_≡_, refl, sym, ap, subst, _∙_}
 use mathlib.Core.Bool.{Bool, true, false}
 use mathlib.Core.List.{List, [], _++_}
@@ -7,12 +7,13 @@ use native.Mathlib.Omega.{arith}
 use lib.Dec.{eqb, ltb}
 use lib.ListN.{length, drop}
 use lib.Seq.{sets, length-sets}
-use borrow.Author.Tests.{lt-ltb, le-ltb, ltb-false}
-use Rattle.scope.specs.Limits.{most-blocks}
+use borrow.Author.Tests.{lt-ltb, le-ltb, ltb-false, ne-eqb}
 use Rattle.scope.specs.Refusals.{pick, granted, refuse}
 use Rattle.words.proofs.Writing.{put-next, put-front}
 use Rattle.cipher.specs.Registers.{Registers, IsRegisters}
-use Rattle.cipher.specs.Run.{move, made, moves, zs, blocks, run-number, run-registers, run-part}
+use Rattle.cipher.specs.Run.{move, made, moves, zs, blocks}
+use Rattle.cipher.specs.State.{State, moved, too-far, past-start, steps-number, run-number, run-state, run-part}
+use Rattle.cipher.proofs.Counting.{run-after}
 use Rattle.cipher.proofs.Moves.{moves-add, blocks-add, blocks-one, blocks-length}
 
 -- the registers s after i steps are t, and the output that was xs has their blocks from a place on
@@ -53,58 +54,62 @@ module _ (d : Bool) (s : Registers) (g : IsRegisters s) (xs : List ℕ) (from n 
       let e : i ≡ n = omega (arith, m .at-most) in
       (m .state ∙ ap (λ (k : ℕ). moves d k s) e, m .written ∙ ap (λ (k : ℕ). sets xs from (blocks d k s)) e)
 
--- the four things that a run promises: registers, bytes written, answer, output
-abbrev pub Answered : Bool → Registers → List ℕ → ℕ → Registers → ℕ → ℕ → List ℕ → Type 0
+-- the four things that a run promises: state, bytes written, answer, output
+abbrev pub Answered : Bool → State → List ℕ → ℕ → State → ℕ → ℕ → List ℕ → Type 0
 Answered d s xs n t k w out =
-    (t ≡ run-registers d s (length xs) n) × ((k ≡ length (run-part d s (length xs) n)) × ((w ≡ run-number (length xs) n)
+    (t ≡ run-state d s (length xs) n) × ((k ≡ length (run-part d s (length xs) n)) × ((w ≡ run-number d (s .count) (length xs) n)
     × (out ≡ run-part d s (length xs) n ++ drop k xs)))
 
-module _ (d : Bool) (s : Registers) (xs : List ℕ) (n : ℕ) where
-  answered : (a : ℕ) → eqb a 0 ≡ false → run-number (length xs) n ≡ a → Answered d s xs n s 0 a xs
-  unfolding run-registers run-part
+module _ (d : Bool) (s : State) (xs : List ℕ) (n : ℕ) where
+  abbrev number : ℕ
+  number = run-number d (s .count) (length xs) n
+
+  answered : (a : ℕ) → eqb a 0 ≡ false → number ≡ a → Answered d s xs n s 0 a xs
+  unfolding run-state run-part
   answered a f e =
-      subst (λ (t : Bool). (s ≡ pick t (moves d n s) s) × ((0 ≡ length (pick t (blocks d n s) [])) × ((a ≡ run-number (length xs) n) × (xs ≡ pick t (blocks d n s) [] ++ xs))))
+      subst (λ (t : Bool). (s ≡ pick t (moved d n s) s) × ((0 ≡ length (pick t (blocks d n (s .registers)) [])) × ((a ≡ number) × (xs ≡ pick t (blocks d n (s .registers)) [] ++ xs))))
       (sym (ap (λ (b : ℕ). eqb b 0) e ∙ f)) (refl, (refl, (sym e, refl)))
 
   -- what a refused run leaves
-  module _ {t : Registers} {w : ℕ} (state : t ≡ s) (wrote : w ≡ 0) where
-    refused : (a : ℕ) → eqb a 0 ≡ false → run-number (length xs) n ≡ a → Answered d s xs n t w a xs
+  module _ {t : State} {w : ℕ} (state : t ≡ s) (wrote : w ≡ 0) where
+    refused : (a : ℕ) → eqb a 0 ≡ false → number ≡ a → Answered d s xs n t w a xs
     refused a f e =
-        subst (λ (u : Registers). Answered d s xs n u w a xs) (sym state) (subst (λ (k : ℕ). Answered d s xs n s k a xs) (sym wrote) (answered a f e))
+        subst (λ (u : State). Answered d s xs n u w a xs) (sym state) (subst (λ (k : ℕ). Answered d s xs n s k a xs) (sym wrote) (answered a f e))
 
-    pub too-many : most-blocks < n → Answered d s xs n t w 9 xs
-    unfolding run-number
-    too-many h = refused 9 refl (rw (lt-ltb most-blocks n h))
+    pub not-counted : (a : ℕ) → a ≡ steps-number d n (s .count) → ¬ (a ≡ 0) → Answered d s xs n t w a xs
+    not-counted a e h =
+        refused a (ne-eqb a 0 h) (run-after d (s .count) (length xs) n ∙ ap (λ (m : ℕ). granted m (refuse (ltb (length xs) (16 * n)) 4 0) m) (sym e)
+        ∙ ap (λ (b : Bool). pick b (refuse (ltb (length xs) (16 * n)) 4 0) a) (ne-eqb a 0 h))
 
-    pub no-room : n ≤ most-blocks → length xs < 16 * n → Answered d s xs n t w 4 xs
-    unfolding run-number
-    no-room h r = refused 4 refl (rw (le-ltb most-blocks n h, lt-ltb (length xs) (16 * n) r))
+    pub no-room : steps-number d n (s .count) ≡ 0 → length xs < 16 * n → Answered d s xs n t w 4 xs
+    no-room h r = refused 4 refl (run-after d (s .count) (length xs) n ∙ rw (h, lt-ltb (length xs) (16 * n) r))
 
-  number-zero : n ≤ most-blocks → 16 * n ≤ length xs → run-number (length xs) n ≡ 0
-  unfolding run-number
-  number-zero h r = rw (le-ltb most-blocks n h, le-ltb (length xs) (16 * n) r)
+  number-zero : steps-number d n (s .count) ≡ 0 → 16 * n ≤ length xs → number ≡ 0
+  number-zero h r = run-after d (s .count) (length xs) n ∙ rw (h, le-ltb (length xs) (16 * n) r)
 
-  pub accepted : IsRegisters s → n ≤ most-blocks → 16 * n ≤ length xs → (t : Registers) (out : List ℕ)
-      → t ≡ moves d n s → out ≡ sets xs 0 (blocks d n s) → Answered d s xs n t (16 * n) 0 out
-  unfolding run-registers run-part
+  pub accepted : IsRegisters (s .registers) → steps-number d n (s .count) ≡ 0 → 16 * n ≤ length xs → (t : State) (out : List ℕ)
+      → t ≡ moved d n s → out ≡ sets xs 0 (blocks d n (s .registers)) → Answered d s xs n t (16 * n) 0 out
+  unfolding run-state run-part
   accepted g h r t out et eo =
       let e = number-zero h r in
-      let l = blocks-length d n s g in
-      subst (λ (b : Bool). (t ≡ pick b (moves d n s) s) × ((16 * n ≡ length (pick b (blocks d n s) [])) × ((0 ≡ run-number (length xs) n) × (out ≡ pick b (blocks d n s) [] ++ drop (16 * n) xs))))
-      (sym (ap (λ (a : ℕ). eqb a 0) e)) (et, (sym l, (sym e, eo ∙ put-front xs (blocks d n s) (16 * n) l r)))
+      let l = blocks-length d n (s .registers) g in
+      subst (λ (b : Bool). (t ≡ pick b (moved d n s) s) × ((16 * n ≡ length (pick b (blocks d n (s .registers)) [])) × ((0 ≡ number) × (out ≡ pick b (blocks d n (s .registers)) [] ++ drop (16 * n) xs))))
+      (sym (ap (λ (a : ℕ). eqb a 0) e)) (et, (sym l, (sym e, eo ∙ put-front xs (blocks d n (s .registers)) (16 * n) l r)))
 
   -- of an output no longer than the blocks the part is all or nothing
   abbrev All-or-none : List ℕ → Type 0
   All-or-none part = (length part ≤ length xs) × (length part < length xs → length part ≡ 0)
 
-  pub all-or-none : IsRegisters s → length xs ≤ 16 * n → All-or-none (run-part d s (length xs) n)
+  pub all-or-none : IsRegisters (s .registers) → length xs ≤ 16 * n → All-or-none (run-part d s (length xs) n)
   unfolding run-part run-number
-  all-or-none g h = go (ltb most-blocks n) (ltb (length xs) (16 * n)) (λ e. ltb-false (length xs) (16 * n) e)
+  all-or-none g h = go (too-far d n (s .count)) (past-start d n (s .count)) (ltb (length xs) (16 * n)) (λ e. ltb-false (length xs) (16 * n) e)
     where
-      go : (much short : Bool) → (short ≡ false → 16 * n ≤ length xs) → All-or-none (granted (refuse much 9 (refuse short 4 0)) (blocks d n s) [])
-      go true short f = (zero-le, λ _. refl)
-      go false true f = (zero-le, λ _. refl)
-      go false false f =
-          let k : length (blocks d n s) ≡ 16 * n = blocks-length d n s g in
+      go : (far before short : Bool) → (short ≡ false → 16 * n ≤ length xs)
+          → All-or-none (granted (refuse far 9 (refuse before 15 (refuse short 4 0))) (blocks d n (s .registers)) [])
+      go true before short f = (zero-le, λ _. refl)
+      go false true short f = (zero-le, λ _. refl)
+      go false false true f = (zero-le, λ _. refl)
+      go false false false f =
+          let k : length (blocks d n (s .registers)) ≡ 16 * n = blocks-length d n (s .registers) g in
           let m : 16 * n ≤ length xs = f refl in
           (omega arith, λ l. absurd (omega arith))

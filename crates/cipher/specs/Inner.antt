@@ -7,7 +7,7 @@ use lib.ListN.{length, take, drop}
 use Rattle.words.specs.Bytes.{part}
 use Rattle.words.specs.Machine.{bytesOf}
 use Rattle.lfsr.specs.Clock.{Lfsr, snowV, clocks}
-use Rattle.cipher.specs.declared.State.{State}
+use Rattle.cipher.specs.declared.Registers as machine
 use Rattle.cipher.specs.declared.Before.{Before}
 use Rattle.cipher.specs.Registers.{Registers}
 use Rattle.cipher.specs.Back.{back, z-before}
@@ -30,7 +30,7 @@ abbrev pub in-lanes : (l : Lfsr) (l1 l2 : List ℕ) (at : ℕ) (r3 : List ℕ) �
 in-lanes l l1 l2 at r3 = record { lfsr = l; r1 = part at 16 l1; r2 = part at 16 l2; r3 = r3 }
 
 -- what of the step that led to s does not hang on register A: R1 and R2 before it, and its z
-pub record Precedes (s : State) (p : Before) : Type 0 where
+pub record Precedes (s : machine.Registers) (p : Before) : Type 0 where
   pub r1 : bytesOf (p .r1) ≡ back (registersOf s) .r1
   pub r2 : bytesOf (p .r2) ≡ back (registersOf s) .r2
   pub z : bytesOf (p .z) ≡ z-before (registersOf s)

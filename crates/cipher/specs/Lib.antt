@@ -2,6 +2,7 @@ pub mod Registers
 pub mod Step
 pub mod Back
 pub mod Run
+pub mod State
 pub mod Machine
 pub mod Lent
 pub mod Laws

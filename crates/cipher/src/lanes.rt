@@ -19,7 +19,7 @@ ghost use Rattle.cipher.specs.Run.{forward, moves, blocks};
 ghost use Rattle.cipher.specs.Machine.{registersOf, Moves};
 ghost use Rattle.cipher.specs.Inner.{clocked, Tapped, in-lanes};
 use crate::Moved;
-use crate::State;
+use crate::Registers;
 use lfsr::Lfsr;
 use words::Block;
 
@@ -97,9 +97,9 @@ pub fn output(l1: &[u8], l2: &[u8], at: usize, t1: Block) -> Block
     words::xor(words::plus(words::load(l1, at), t1), words::load(l2, at))
 }
 
-// A state moved on to registers of which R1 and R2 stand at a place of their lanes. All of `s` is written over: it is where the loop began, by which
+// Registers moved on to those of which R1 and R2 stand at a place of their lanes. All of `s` is written over: it is where the loop began, by which
 // the loop says how far it has come.
-pub fn moved_to(s: State, l: Lfsr, l1: &[u8], l2: &[u8], at: usize, r3: Block) -> State
+pub fn moved_to(s: Registers, l: Lfsr, l1: &[u8], l2: &[u8], at: usize, r3: Block) -> Registers
     requires { ⌜ (at + 16 ≤ length (now l1)) × (at + 16 ≤ length (now l2)) ⌝ }
     ensures { λ r. ⌜ registersOf r ≡ in-lanes (lfsrOf l) (now (l1 .entry)) (now (l2 .entry)) at (bytesOf r3) ⌝ }
 {
@@ -115,9 +115,9 @@ pub fn moved_to(s: State, l: Lfsr, l1: &[u8], l2: &[u8], at: usize, r3: Block) -
 
 // At most 16 steps, their blocks written from a place on. z is made last in a step: its reads of what the step before wrote as words would wait for
 // them if they came first.
-pub fn batch(s: State, rounds: &[u32; 256], out: &mut [u8], from: usize, n: usize) -> State
+pub fn batch(s: Registers, rounds: &[u32; 256], out: &mut [u8], from: usize, n: usize) -> Registers
     requires { ⌜ (n ≤ 16) × (from + 16 * n ≤ length (now out)) × Holds wide (now rounds) ⌝ }
-    ensures state { λ r. ⌜ registersOf r ≡ moves forward n (registersOf s) ⌝ }
+    ensures registers { λ r. ⌜ registersOf r ≡ moves forward n (registersOf s) ⌝ }
     ensures out { λ _. ⌜ now (out .exit) ≡ sets (now (out .entry)) from (blocks forward n (registersOf s)) ⌝ }
 {
     let old = s.lfsr;
@@ -148,22 +148,22 @@ pub fn batch(s: State, rounds: &[u32; 256], out: &mut [u8], from: usize, n: usiz
 }
 
 // One step, with its z.
-pub fn forward(s: State, rounds: &[u32; 256]) -> Moved
+pub fn forward(s: Registers, rounds: &[u32; 256]) -> Moved
     requires { ⌜ Holds wide (now rounds) ⌝ }
     ensures { λ r. ⌜ Moves forward s r ⌝ }
 {
     let mut b = [0u8; 16];
     let n = batch(s, rounds, &mut b, 0, 1);
     Moved {
-        state: n,
+        registers: n,
         z: words::load(&b, 0),
     }
 }
 
 // n steps, from the front of the output on.
-pub fn run_forward(s: State, rounds: &[u32; 256], out: &mut [u8], n: usize) -> State
+pub fn run_forward(s: Registers, rounds: &[u32; 256], out: &mut [u8], n: usize) -> Registers
     requires { ⌜ (16 * n ≤ length (now out)) × Holds wide (now rounds) ⌝ }
-    ensures state { λ r. ⌜ registersOf r ≡ moves forward n (registersOf s) ⌝ }
+    ensures registers { λ r. ⌜ registersOf r ≡ moves forward n (registersOf s) ⌝ }
     ensures out { λ _. ⌜ now (out .exit) ≡ sets (now (out .entry)) 0 (blocks forward n (registersOf s)) ⌝ }
 {
     let mut t = s;

@@ -1,4 +1,4 @@
-// SNOW-V: one step, forward and back, by value and lent, and runs of steps.
+// SNOW-V: one step, forward and back, by value and lent, and runs of steps. A state carries its count of blocks, by which steps and runs are refused.
 ghost use mathlib.Core.Path.{_≡_};
 ghost use mathlib.Core.List.{[], _∷_, _++_};
 ghost use Prim.Native.Nat.{_*_, _/_, _%_, _≤_};
@@ -11,8 +11,9 @@ ghost use Rattle.aes.specs.Unround.{unsub};
 ghost use Rattle.aes.specs.Tables.{Holds};
 ghost use Rattle.cipher.specs.Step;
 ghost use Rattle.cipher.specs.Back;
-ghost use Rattle.cipher.specs.Run.{forward, backward, move, made, moves, blocks, run-number, run-registers, run-part};
-ghost use Rattle.cipher.specs.Machine.{registersOf, Moves, Steps};
+ghost use Rattle.cipher.specs.Run.{forward, backward, move, made, moves, blocks};
+ghost use Rattle.cipher.specs.State.{Drawn.block, Drawn.refused, counted, steps-number, step-number, step-state, step-answer, run-number, run-state, run-part};
+ghost use Rattle.cipher.specs.Machine.{registersOf, stateOf, drawnOf, Moves, Steps};
 ghost use Rattle.cipher.specs.Inner.{Precedes};
 ghost use Rattle.cipher.specs.Lent.{front-of};
 
@@ -22,22 +23,35 @@ use lfsr::Lfsr;
 use words::Block;
 
 // The contents of A and B, R1, R2 and R3: document 01's cipher state.
-pub struct State {
+pub struct Registers {
     pub lfsr: Lfsr,
     pub r1: Block,
     pub r2: Block,
     pub r3: Block,
 }
 
-// What a step gives: the state it leads to, and its block z.
+// Document 02's state: the registers, and how many blocks lie between the start and them.
+pub struct State {
+    pub registers: Registers,
+    pub count: u64,
+}
+
+// What a step of the registers gives: those that it leads to, and its block z.
 pub struct Moved {
-    pub state: State,
+    pub registers: Registers,
     pub z: Block,
 }
 
+// A step's answer: its block z, or the number of the refusal.
+pub enum Drawn {
+    Z(Block),
+    Refused(u64),
+}
+
+// A step by value: the state that it leads to, or the state as it was, and the answer.
 pub struct Stepped {
     pub state: State,
-    pub z: [u8; 16],
+    pub drawn: Drawn,
 }
 
 fn pair(lo: u16, hi: u16) -> u32
@@ -95,15 +109,15 @@ fn sigma(x: Block) -> Block
     }
 }
 
-// What of the step that led to a state does not hang on register A: R1 and R2 before it, and its z.
+// What of the step that led to some registers does not hang on register A: R1 and R2 before it, and its z.
 pub struct Before {
     pub r1: Block,
     pub r2: Block,
     pub z: Block,
 }
 
-// The z of the step that led to a state, over a lent inverse S-box, with the R1 and R2 that it was made of. B's low half was T1.
-pub fn z_before(s: State, inverse: &[u8; 256]) -> Before
+// The z of the step that led to these registers, over a lent inverse S-box, with the R1 and R2 that it was made of. B's low half was T1.
+pub fn z_before(s: Registers, inverse: &[u8; 256]) -> Before
     requires { ⌜ Holds unsub (now inverse) ⌝ }
     ensures { λ r. ⌜ Precedes s r ⌝ }
 {
@@ -121,8 +135,8 @@ pub fn z_before(s: State, inverse: &[u8; 256]) -> Before
     }
 }
 
-// The state before that step. The clocks go first: R3 had the old a0 to a7 xored in.
-pub fn state_before(s: State, p: Before) -> State
+// The registers before that step. The clocks go first: R3 had the old a0 to a7 xored in.
+pub fn registers_before(s: Registers, p: Before) -> Registers
     requires { ⌜ Precedes s p ⌝ }
     ensures { λ r. ⌜ registersOf r ≡ Back.back (registersOf s) ⌝ }
 {
@@ -133,7 +147,7 @@ pub fn state_before(s: State, p: Before) -> State
     let o = lfsr::unclock8(l);
     let a = o.a;
     let o3 = words::xor(words::minus(sigma(r1), o2), low_half(a));
-    State {
+    Registers {
         lfsr: o,
         r1: o1,
         r2: o2,
@@ -142,58 +156,122 @@ pub fn state_before(s: State, p: Before) -> State
 }
 
 // One step back, over a lent inverse S-box, with the z of the step that is undone.
-pub fn backward(s: State, inverse: &[u8; 256]) -> Moved
+pub fn backward(s: Registers, inverse: &[u8; 256]) -> Moved
     requires { ⌜ Holds unsub (now inverse) ⌝ }
     ensures { λ r. ⌜ Moves backward s r ⌝ }
 {
     let p = z_before(s, inverse);
     let z = p.z;
-    let state = state_before(s, p);
-    Moved { state: state, z: z }
+    let registers = registers_before(s, p);
+    Moved {
+        registers: registers,
+        z: z,
+    }
 }
 
-// One step: the state it leads to, and its z.
+// The number of n steps from a count: 9 for a count or an n over 65,538, and for a way forward past it; 15 for a way back past 0.
+pub fn steps_number(count: u64, n: u64, back: bool) -> u64
+    ensures { λ r. ⌜ r ≡ steps-number back n count ⌝ }
+{
+    if count > scope::MOST_BLOCKS {
+        return scope::COUNT_TOO_HIGH;
+    }
+    if n > scope::MOST_BLOCKS {
+        return scope::COUNT_TOO_HIGH;
+    }
+    if back {
+        if count < n {
+            return scope::BEFORE_START;
+        }
+        return scope::ACCEPTED;
+    }
+    if count + n > scope::MOST_BLOCKS {
+        return scope::COUNT_TOO_HIGH;
+    }
+    scope::ACCEPTED
+}
+
+// The count after n steps that are not refused.
+fn counted(count: u64, n: u64, back: bool) -> u64
+    requires { ⌜ steps-number back n count ≡ 0 ⌝ }
+    ensures { λ r. ⌜ r ≡ counted back n count ⌝ }
+{
+    if back {
+        return count - n;
+    }
+    count + n
+}
+
+// A refused step: its number, and the state as it was.
+fn not_stepped(s: State, n: u64) -> Stepped
+    ensures { λ r. ⌜ (stateOf (r .state) ≡ stateOf s) × (drawnOf (r .drawn) ≡ refused n) ⌝ }
+{
+    Stepped {
+        state: s,
+        drawn: Drawn::Refused(n),
+    }
+}
+
+// One step: the state it leads to, and its z. Refused: 9 at a count of 65,538 and over.
 pub fn step_by_value(s: State) -> Stepped
     ensures { λ r. ⌜ Steps forward s r ⌝ }
 {
+    let number = steps_number(s.count, 1, false);
+    if number != 0 {
+        return not_stepped(s, number);
+    }
+    let old = s.registers;
     let rounds = wide_round::table();
-    let w = lanes::forward(s, &rounds);
-    let n = w.state;
+    let w = lanes::forward(old, &rounds);
+    let n = w.registers;
     let z = w.z;
+    let state = State {
+        registers: n,
+        count: counted(s.count, 1, false),
+    };
     Stepped {
-        state: n,
-        z: words::to_bytes(z),
+        state: state,
+        drawn: Drawn::Z(z),
     }
 }
 
-// One step back: the only state whose step leads to this one, and that step's z.
+// One step back: the only state whose step leads to this one, and that step's z. Refused: 9 at a count over 65,538, 15 at 0.
 pub fn back_by_value(s: State) -> Stepped
     ensures back { λ r. ⌜ Steps backward s r ⌝ }
-    ensures leads { λ r. ⌜ (Step.step (registersOf (r .state)) ≡ registersOf s) × (r .z ≡ Step.z (registersOf (r .state))) ⌝ }
+    ensures leads { λ r. ⌜ (step-number backward (stateOf s) ≡ 0 → (step-state forward (stateOf (r .state)) ≡ stateOf s) × (step-answer forward (stateOf (r .state)) ≡ drawnOf (r .drawn))) ⌝ }
 {
+    let number = steps_number(s.count, 1, true);
+    if number != 0 {
+        return not_stepped(s, number);
+    }
+    let old = s.registers;
     let inverse = aes::inverse_sbox();
-    let w = backward(s, &inverse);
-    let n = w.state;
+    let w = backward(old, &inverse);
+    let n = w.registers;
     let z = w.z;
+    let state = State {
+        registers: n,
+        count: counted(s.count, 1, true),
+    };
     Stepped {
-        state: n,
-        z: words::to_bytes(z),
+        state: state,
+        drawn: Drawn::Z(z),
     }
 }
 
-// The state is lent, moved on one step, and z comes back.
-pub fn step(s: &mut State) -> [u8; 16]
-    ensures { λ r. ⌜ (registersOf (now (s .exit)) ≡ move forward (registersOf (now (s .entry)))) × (r ≡ made forward (registersOf (now (s .entry)))) ⌝ }
+// The state is lent, moved on one step, and z comes back; or the refusal's number, and then the state stays.
+pub fn step(s: &mut State) -> Drawn
+    ensures { λ r. ⌜ (stateOf (now (s .exit)) ≡ step-state forward (stateOf (now (s .entry)))) × (drawnOf r ≡ step-answer forward (stateOf (now (s .entry)))) ⌝ }
 {
     let t = step_by_value(*s);
     *s = t.state;
-    t.z
+    t.drawn
 }
 
 // n steps back, from the front of the output on.
-fn run_back(s: State, out: &mut [u8], n: usize) -> State
+fn run_back(s: Registers, out: &mut [u8], n: usize) -> Registers
     requires { ⌜ 16 * n ≤ length (now out) ⌝ }
-    ensures state { λ r. ⌜ registersOf r ≡ moves backward n (registersOf s) ⌝ }
+    ensures registers { λ r. ⌜ registersOf r ≡ moves backward n (registersOf s) ⌝ }
     ensures out { λ _. ⌜ now (out .exit) ≡ sets (now (out .entry)) 0 (blocks backward n (registersOf s)) ⌝ }
 {
     let inverse = aes::inverse_sbox();
@@ -201,7 +279,7 @@ fn run_back(s: State, out: &mut [u8], n: usize) -> State
     let mut i: usize = 0;
     while i < n {
         let w = backward(t, &inverse);
-        let u = w.state;
+        let u = w.registers;
         let z = w.z;
         t = u;
         words::store(out, 16 * i, z);
@@ -211,9 +289,9 @@ fn run_back(s: State, out: &mut [u8], n: usize) -> State
 }
 
 // n steps in a direction.
-fn steps(s: State, out: &mut [u8], n: usize, back: bool) -> State
+fn steps(s: Registers, out: &mut [u8], n: usize, back: bool) -> Registers
     requires { ⌜ 16 * n ≤ length (now out) ⌝ }
-    ensures state { λ r. ⌜ registersOf r ≡ moves back n (registersOf s) ⌝ }
+    ensures registers { λ r. ⌜ registersOf r ≡ moves back n (registersOf s) ⌝ }
     ensures out { λ _. ⌜ now (out .exit) ≡ sets (now (out .entry)) 0 (blocks back n (registersOf s)) ⌝ }
 {
     if back {
@@ -236,16 +314,18 @@ fn refused(s: State) -> Ran
     Ran { state: s, wrote: 0 }
 }
 
-// n steps, forward or back: their blocks in the order made, at the front of the output. Refused: 9 for an n over 65,538, 4 where the blocks do
-// not fit the output. The answer becomes 0, or the refusal's number, and is all that a refusal changes.
+// n steps, forward or back: their blocks in the order made, at the front of the output. Refused, before a byte is written: 9 for a count or an n over
+// 65,538 and for a way forward past it, 15 for a way back past 0, 4 where the blocks do not fit the output. The answer becomes 0, or the refusal's
+// number, and is all that a refusal changes.
 pub fn run_core(s: State, answer: &mut u64, out: &mut [u8], n: usize, back: bool) -> Ran
-    ensures state { λ r. ⌜ registersOf (r .state) ≡ run-registers back (registersOf s) (length (now (out .entry))) n ⌝ }
-    ensures wrote { λ r. ⌜ r .wrote ≡ length (run-part back (registersOf s) (length (now (out .entry))) n) ⌝ }
-    ensures answer { λ _. ⌜ now (answer .exit) ≡ run-number (length (now (out .entry))) n ⌝ }
-    ensures out { λ r. ⌜ now (out .exit) ≡ run-part back (registersOf s) (length (now (out .entry))) n ++ drop (r .wrote) (now (out .entry)) ⌝ }
+    ensures state { λ r. ⌜ stateOf (r .state) ≡ run-state back (stateOf s) (length (now (out .entry))) n ⌝ }
+    ensures wrote { λ r. ⌜ r .wrote ≡ length (run-part back (stateOf s) (length (now (out .entry))) n) ⌝ }
+    ensures answer { λ _. ⌜ now (answer .exit) ≡ run-number back (s .count) (length (now (out .entry))) n ⌝ }
+    ensures out { λ r. ⌜ now (out .exit) ≡ run-part back (stateOf s) (length (now (out .entry))) n ++ drop (r .wrote) (now (out .entry)) ⌝ }
 {
-    if n as u64 > scope::MOST_BLOCKS {
-        *answer = scope::COUNT_TOO_HIGH;
+    let number = steps_number(s.count, n as u64, back);
+    if number != 0 {
+        *answer = number;
         return refused(s);
     }
     if out.len() < 16 * n {
@@ -253,8 +333,13 @@ pub fn run_core(s: State, answer: &mut u64, out: &mut [u8], n: usize, back: bool
         return refused(s);
     }
     *answer = scope::ACCEPTED;
+    let old = s.registers;
+    let state = State {
+        registers: steps(old, out, n, back),
+        count: counted(s.count, n as u64, back),
+    };
     Ran {
-        state: steps(s, out, n, back),
+        state: state,
         wrote: 16 * n,
     }
 }
@@ -268,9 +353,9 @@ pub fn run<'a>(
     n: usize,
     back: bool,
 ) -> &'a mut [u8]
-    ensures state { λ _. ⌜ registersOf (now (s .exit)) ≡ run-registers back (registersOf (now (s .entry))) (length (now (out .entry))) n ⌝ }
-    ensures answer { λ _. ⌜ now (answer .exit) ≡ run-number (length (now (out .entry))) n ⌝ }
-    ensures part { λ r. ⌜ (ptr r ≡ ptr (out .entry)) × (now r ≡ run-part back (registersOf (now (s .entry))) (length (now (out .entry))) n) ⌝ }
+    ensures state { λ _. ⌜ stateOf (now (s .exit)) ≡ run-state back (stateOf (now (s .entry))) (length (now (out .entry))) n ⌝ }
+    ensures answer { λ _. ⌜ now (answer .exit) ≡ run-number back (now (s .entry) .count) (length (now (out .entry))) n ⌝ }
+    ensures part { λ r. ⌜ (ptr r ≡ ptr (out .entry)) × (now r ≡ run-part back (stateOf (now (s .entry))) (length (now (out .entry))) n) ⌝ }
     ensures rest { λ r. front-of 𝓤 A (out .entry) r (drop (length (now r)) (now (out .entry))) }
 {
     let t = run_core(*s, answer, out, n, back);

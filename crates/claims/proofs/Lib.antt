@@ -5,4 +5,5 @@ pub mod Pieces
 pub mod SuspendedLists
 pub mod Opening
 pub mod Runs
+pub mod Counting
 pub mod Demands

@@ -1,6 +1,6 @@
 -- A session at a stage within the limits stands where its key and IV lead, so that suspend writes its registers, and resume right after an accepted
 -- suspend gives the very session.
-use mathlib.Core.Path.{_≡_, refl, _∙_}
+use mathlib.Core.Path.{_≡_, refl, ap, _∙_}
 use mathlib.Core.List.{List}
 use Prim.Native.Nat.{ℕ, _≤_}
 use native.Mathlib.Omega.{arith}
@@ -8,6 +8,7 @@ use lib.Dec.{lit≤}
 use lib.ListN.{length, take, replicate}
 use Rattle.words.specs.Bytes.{Row, IsBlock, part}
 use Rattle.cipher.specs.Run.{forward, moves}
+use Rattle.cipher.specs.State.{State}
 use Rattle.start.specs.Start.{Mode.sealed, start}
 use Rattle.session.specs.Session.{drawn-at}
 use Rattle.layout.specs.Block.{registers-at}
@@ -51,7 +52,7 @@ module _ (key iv : List ℕ) (k : Row 32 256 key) (v : IsBlock iv) (g : Stage) (
           pending-block = pending-block key iv k v g (w .ad-bytes) (w .text-bytes);
           zeros-behind = λ i h. zeros-behind key iv g i (rw n at h);
         };
-        registers-led = refl;
+        state-led = refl;
         h-led = refl;
         pad-led = refl;
         current-led = refl;
@@ -69,7 +70,7 @@ module _ (key iv : List ℕ) (k : Row 32 256 key) (v : IsBlock iv) (g : Stage) (
   pub written-at : (out : List ℕ) → suspend-call (session-at key iv g) out .number ≡ 0
       → registers-at (part 16 112 (suspend-call (session-at key iv g) out .out)) ≡ moves forward (drawn-at (length (text-of g))) (start key iv sealed)
   unfolding session-at
-  written-at out n = suspend-registers (session-at key iv g) (led .fine) out n ∙ led .registers-led
+  written-at out n = suspend-registers (session-at key iv g) (led .fine) out n ∙ ap (λ (t : State). t .registers) (led .state-led)
 
   pub cipher-state-at : cipher-state (session-at key iv g) ≡ moves forward (drawn-at (length (text-of g))) (start key iv sealed)
   unfolding cipher-state

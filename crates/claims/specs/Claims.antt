@@ -1,24 +1,32 @@
 -- Demands 2 and 3 (the user's words stand in quotes), as statements about every list of calls, every page and every state. They speak of the
 -- functions that the contracts of start, run, trace, begin, data, text, finish, suspend, resume, seal and open name, and of the page as the paper
--- defines it. proofs/Demands.antt proves them.
-use Prim.Native.Nat.{ℕ, _≤_}
+-- defines it. proofs/Demands.antt proves them, proofs/Counting.antt
+-- what is said of a session's count.
+use Prim.Native.Nat.{ℕ, _+_, _*_, _≤_}
 use mathlib.Core.Path.{_≡_}
+use mathlib.Core.Bool.{not}
 use mathlib.Core.List.{List, _++_}
+use lib.Dec.{ltb}
 use lib.ListN.{getD, length, take, drop}
 use Rattle.scope.specs.Limits.{most-data, most-text, most-blocks}
-use Rattle.scope.specs.Refusals.{granted, bad-tag}
+use Rattle.scope.specs.Refusals.{refuse, granted, out-of-phase, too-long, short-output, bad-tag, count-too-high}
 use Rattle.words.specs.Bytes.{part}
-use Rattle.cipher.specs.Registers.{Registers, IsRegisters}
+use Rattle.cipher.specs.Registers.{IsRegisters}
+use Rattle.cipher.specs.Run.{forward}
+use Rattle.cipher.specs.State.{State, run-number}
+use Rattle.cipher.specs.Laws.{steps, NoneRefused}
+use Rattle.start.specs.Start.{Mode}
 use Rattle.start.specs.Leads.{LeadsTo, Traced.origin, Traces}
 use Rattle.start.specs.Trace.{trace}
-use Rattle.session.specs.Calls.{begin-call, text-call, finish-call}
+use Rattle.session.specs.Session.{Session, drawn-at, drawn-by}
+use Rattle.session.specs.Calls.{begin-call, data-call, text-call, finish-call}
 use Rattle.layout.specs.Block.{registers-at}
 use Rattle.suspend.specs.Calls.{suspend-call, Revives}
 use Rattle.suspend.specs.Walk.{resume-call}
 use Rattle.page.specs.Page.{encrypted, cipher-of, tag-for, page-tag}
 use Rattle.page.specs.Calls.{seal-number, seal-out, seal-tag, open-number, open-out}
 use Rattle.page.specs.Reached.{session-of}
-use Rattle.claims.specs.Lists.{Bytes, Call, after, answers-of, Joins, History, History.in-session, key-of, iv-of, mode-of, Accepted, end, drawn}
+use Rattle.claims.specs.Lists.{Bytes, Call, after, answers-of, Joins, Run, History, History.in-session, History.in-runs, key-of, iv-of, mode-of, Accepted, end, drawn, state-after}
 
 -- a key of 32 bytes and an IV of 16
 pub record Keyed (key iv : Bytes) : Type 0 where
@@ -70,12 +78,44 @@ pub record SealsByPieces : Type 0 where
       → let t = after key iv cs in
       let g = text-call (t .session) (p .list) (out .list) in
       g .out ≡ granted (g .number) (encrypted (key .list) (iv .list) (length (t .text)) (p .list) ++ drop (length (p .list)) (out .list)) (out .list)
+  -- After every list of calls a text piece is answered by its length and by the room for it alone: 3, 4 or 0. So neither 9 nor 7 is ever given, the count
+  -- and the phase being those of a session that was begun and not finished.
+  pub text-answers : (key iv : Bytes) → Keyed key iv → (cs : List Call) (p out : Bytes)
+      → let t = after key iv cs in
+      text-call (t .session) (p .list) (out .list) .number
+      ≡ refuse (ltb most-text (length (t .text) + length (p .list))) too-long (refuse (ltb (length (out .list)) (length (p .list))) short-output 0)
   -- After every list of calls the session is what key, IV and the accepted pieces make it.
   pub session : (key iv : Bytes) → Keyed key iv → (cs : List Call)
       → let t = after key iv cs in t .session ≡ session-of (key .list) (iv .list) (t .ad) (t .text) (t .text-begun)
   -- After every list of calls, suspend is accepted where the output has room for its 512 bytes, and resume right after it gives the very session.
   pub resumed : (key iv : Bytes) → Keyed key iv → (cs : List Call) (out : Bytes) → 512 ≤ length (out .list)
       → (suspended-number key iv cs out ≡ 0) × Resumes key iv cs out
+
+-- ---- the count in a session
+
+-- its state's count is that of the blocks which its text has drawn
+abbrev pub Fits : Session → Type 0
+Fits s = s .state .count ≡ drawn-at (s .text)
+
+-- Another count than this has only a session that a caller made up, or the finished one that a refused begin or resume hands out.
+pub record CountFits : Type 0 where
+  -- An accepted begin gives a session of which it holds, and so does an accepted resume, from whatever block;
+  pub begun : (key iv : List ℕ) → begin-call key iv .number ≡ 0 → Fits (begin-call key iv .session)
+  pub resumed : (key block : List ℕ) → resume-call key block .number ≡ 0 → Fits (resume-call key block .session)
+  -- the session's calls, accepted or refused, keep it so.
+  pub data-keeps : (s : Session) → Fits s → (p : List ℕ) → Fits (data-call s p .session)
+  pub text-keeps : (s : Session) → Fits s → (p out : List ℕ) → Fits (text-call s p out .session)
+  pub finish-keeps : (s : Session) → Fits s → Fits (finish-call s .session)
+  pub suspend-keeps : (s : Session) → Fits s → (out : List ℕ) → Fits (suspend-call s out .session)
+  -- Of every session, made up or not: an accepted piece of text takes just as many steps as were tested against the count, none of them refused, each from
+  -- where the one before it led.
+  pub text-steps : (s : Session) (p out : List ℕ) → text-call s p out .number ≡ 0
+      → let n = drawn-by (s .text) (length p) in
+      NoneRefused forward n (s .state) × (text-call s p out .session .state ≡ steps forward n (s .state))
+  -- And in a session whose count fits no piece of text gets 9: it is answered 7, 3, 4 or 0 as document 01 has it.
+  pub never-too-far : (s : Session) → Fits s → (p out : List ℕ) → text-call s p out .number
+      ≡ refuse (not (ltb (s .phase) 2)) out-of-phase
+      (refuse (ltb most-text (s .text + length p)) too-long (refuse (ltb (length out) (length p)) short-output 0))
 
 -- ---- demand 2: whole pages
 
@@ -147,16 +187,26 @@ pub record OneStayPerState : Type 0 where
   -- "After each such list, the stay number and mode that it began with lead to the cipher state, under its key and at its count of blocks drawn."
   pub leads : (a : History) → Accepted a → LeadsTo (key-of a) (drawn a) (iv-of a) (mode-of a) (end a)
   -- "Two such lists, of one kind or of both, always end in different cipher states if they share a key, have drawn equally many blocks, at most
-  -- 65,538, and differ in stay number or mode." It is shown at every count, those up to 65,538 among them.
+  -- 65,538, and differ in stay number or mode." (No list draws more: `at-most`.)
   pub apart : (a b : History) → Accepted a → Accepted b → key-of a ≡ key-of b → drawn a ≡ drawn b
       → ¬ ((iv-of a ≡ iv-of b) × (mode-of a ≡ mode-of b)) → ¬ (end a ≡ end b)
-  -- "A state names its stay": up to 65,538 blocks, trace from where a list ended gives the stay number and mode that it began with.
-  pub names : (a : History) → Accepted a → drawn a ≤ most-blocks → trace (end a) (key-of a) (drawn a) ≡ origin (iv-of a) (mode-of a)
+  -- The state that a list leaves has the registers of that cipher state, and its own count is the blocks drawn, as they are counted from what was handed
+  -- over; no list comes past 65,538.
+  pub registers-kept : (a : History) → Accepted a → state-after a .registers ≡ end a
+  pub counted : (a : History) → Accepted a → state-after a .count ≡ drawn a
+  pub at-most : (a : History) → Accepted a → drawn a ≤ most-blocks
+  -- After every list of runs a run is answered by what was drawn and by the room for it alone: 9 if it would come past 65,538 in all, else 4, else 0.
+  pub run-answers : (key iv : Bytes) (m : Mode) (rs : List Run) (r : Run) → Accepted (in-runs key iv m rs)
+      → let a = in-runs key iv m rs in
+      run-number forward (state-after a .count) (length (r .out .list)) (r .n)
+      ≡ refuse (ltb most-blocks (drawn a + r .n)) count-too-high (refuse (ltb (length (r .out .list)) (16 * r .n)) short-output 0)
+  -- "A state names its stay": trace of the state that a list leaves gives the stay number and mode that it began with.
+  pub names : (a : History) → Accepted a → trace (state-after a) (key-of a) ≡ origin (iv-of a) (mode-of a)
   -- "Walking back (trace) gives the one stay number and mode that lead to a state, and is refused with 6 exactly when none leads there. That is
-  -- claimed of every state, reached or not, under every key of 32 bytes and at every count up to 65,538." Trace has one answer, so that no other
-  -- stay number or mode leads there. The registers of every `State` of the code are such registers (`every-state` of crates/cipher/proofs/Typed.antt),
+  -- claimed of every state, reached or not, under every key of 32 bytes and at every count up to 65,538." A state is any registers with any count, and over
+  -- 65,538 it gets 9. Trace has one answer, so that no other stay number or mode leads there. The registers of every `State` of the code are such registers (`every-state` of crates/cipher/proofs/Typed.antt),
   -- and the contract of `start::trace` says the same of every `State` and every lent key, without a hypothesis.
-  pub traces : (s : Registers) → IsRegisters s → (key : Bytes) (n : ℕ) → Traces s (key .list) n (trace s (key .list) n)
+  pub traces : (s : State) → IsRegisters (s .registers) → (key : Bytes) → Traces s (key .list) (trace s (key .list))
   -- Resume answers likewise on every block, one that nobody here wrote included: 0 with an IV exactly if it leads to the block's registers in sealed mode, 6
   -- exactly if none does.
   pub revives : (key block : Bytes) → Revives (key .list) (block .list) (resume-call (key .list) (block .list))

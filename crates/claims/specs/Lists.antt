@@ -11,8 +11,9 @@ use lib.ListN.{getD, length, take, replicate}
 use Rattle.scope.specs.Refusals.{granted}
 use Rattle.words.specs.Bytes.{part}
 use Rattle.cipher.specs.Registers.{Registers}
-use Rattle.cipher.specs.Run.{forward, run-number, run-registers}
-use Rattle.start.specs.Start.{Mode, Mode.sealed, start, start-number, blank}
+use Rattle.cipher.specs.Run.{forward}
+use Rattle.cipher.specs.State.{State, run-number, run-state}
+use Rattle.start.specs.Start.{Mode, Mode.sealed, started, start-number, blank}
 use Rattle.session.specs.Session.{Session, drawn-at}
 use Rattle.session.specs.Calls.{begin-call, data-call, text-call}
 use Rattle.layout.specs.Block.{registers-at}
@@ -143,10 +144,10 @@ pub record Run : Type 0 where
   pub n : ℕ
   pub out : Bytes
 
--- where a list of runs has come to: the state, and the sum of n over the accepted runs
+-- where a list of runs has come to: the state, and the sum of n over the accepted runs, which is added up here and not read from the state
 pub record Course : Type 0 where
-  pub registers : Registers
-  pub count : ℕ
+  pub state : State
+  pub sum : ℕ
 
 unfoldable pub runs : Course → List Run → Course
 runs c [] = c
@@ -154,15 +155,15 @@ runs c (r ∷ rs) =
     let len = length (r .out .list) in
     runs
     (record {
-      registers = run-registers forward (c .registers) len (r .n);
-      count = c .count + granted (run-number len (r .n)) (r .n) 0;
+      state = run-state forward (c .state) len (r .n);
+      sum = c .sum + granted (run-number forward (c .state .count) len (r .n)) (r .n) 0;
     })
     rs
 
 -- the whole list, from what start hands out on
 abbrev pub course : (key iv : Bytes) → Mode → List Run → Course
 course key iv m rs =
-    runs (record { registers = granted (start-number (key .list) (iv .list)) (start (key .list) (iv .list) m) blank; count = 0 }) rs
+    runs (record { state = granted (start-number (key .list) (iv .list)) (started (key .list) (iv .list) m) blank; sum = 0 }) rs
 
 -- ---- lists of either kind
 
@@ -191,9 +192,14 @@ Accepted (in-runs key iv m rs) = start-number (key .list) (iv .list) ≡ 0
 -- the cipher state that it ends in
 abbrev pub end : History → Registers
 end (in-session key iv cs) = cipher-state (after key iv cs .session)
-end (in-runs key iv m rs) = course key iv m rs .registers
+end (in-runs key iv m rs) = course key iv m rs .state .registers
 
 -- the blocks that it has drawn: 2 + (the length of all accepted text pieces together) / 16 rounded up, or the sum of n over the accepted runs
 abbrev pub drawn : History → ℕ
 drawn (in-session key iv cs) = drawn-at (length (after key iv cs .text))
-drawn (in-runs key iv m rs) = course key iv m rs .count
+drawn (in-runs key iv m rs) = course key iv m rs .sum
+
+-- the state that it leaves, which carries a count of its own: the session's, or the one that was run
+abbrev pub state-after : History → State
+state-after (in-session key iv cs) = after key iv cs .session .state
+state-after (in-runs key iv m rs) = course key iv m rs .state

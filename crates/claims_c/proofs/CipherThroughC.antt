@@ -1,9 +1,10 @@
--- Keystream and trace through C are start, run and trace below: a run of as many whole blocks as fit is not refused for room, and of 112 bytes trace
--- is that of the registers which they list.
+-- Keystream and trace through C are start, run and trace below: a run of as many whole blocks as fit is not refused for room, and of 120 bytes trace
+-- is that of the state which they list.
 use mathlib.Core.Path.{_≡_, refl, sym, ap, subst, _∙_}
-use mathlib.Core.Bool.{Bool, true, false}
+use mathlib.Core.Bool.{Bool, true, false, _||_}
 use mathlib.Core.List.{List, [], _∷_, _++_}
 use Prim.Native.Nat.{ℕ, _*_, _≤_, _<_}
+use native.Mathlib.Nat.{zero-add}
 use native.Mathlib.Omega.{arith}
 use native.Mathlib.Decide.{decLt}
 use borrow.Author.Tests.{eqb-true, eqb-false, lt-ltb, le-ltb}
@@ -12,9 +13,10 @@ use lib.ListN.{length, drop}
 use Rattle.scope.specs.Limits.{most-blocks}
 use Rattle.scope.specs.Refusals.{granted, refuse, count-too-high}
 use Rattle.cipher.specs.Registers.{Registers, IsRegisters}
-use Rattle.cipher.specs.Run.{forward, blocks, run-number, run-part}
+use Rattle.cipher.specs.Run.{forward, blocks}
+use Rattle.cipher.specs.State.{State, run-number, run-part}
 use Rattle.cipher.proofs.Moves.{blocks-length}
-use Rattle.start.specs.Start.{start, start-number}
+use Rattle.start.specs.Start.{start, started, start-number}
 use Rattle.start.specs.Leads.{Traced, Traced.origin, Traced.refused, Traces}
 use Rattle.start.specs.Trace.{trace}
 use Rattle.start.proofs.Answers as answers
@@ -22,14 +24,15 @@ use Rattle.start.proofs.Undo.{start-good}
 use Rattle.start.proofs.Tracing.{traces as trace-law}
 use Rattle.page.specs.Page.{cipher-of}
 use Rattle.page.specs.Calls.{seal-number, seal-out, seal-tag}
-use Rattle.layout.proofs.RegisterBytes.{at-good}
-use Rattle.layout.specs.Block.{registers-at}
 use Rattle.claims.specs.Lists.{Bytes}
 use Rattle.claims.proofs.Within.{row-of}
 use Rattle.claims.proofs.Demands.{start-keyed}
 use Rattle.tulvekas.specs.Order.{next, room}
+use Rattle.tulvekas.specs.StateBytes.{state-bytes, state-in}
 use Rattle.tulvekas.specs.Pages.{seal-answer, seal-writes, seal-writes-tag}
 use Rattle.tulvekas.specs.Cipher.{mode-named, fitting, keystream-answer, keystream-writes, mode-byte, trace-of-bytes, trace-answer, trace-iv, trace-sealed}
+use Rattle.tulvekas.proofs.Sizes.{SizedState}
+use Rattle.tulvekas.proofs.StateLaws.{state-row, state-whole, listed-sized}
 use Rattle.tulvekas.proofs.Answering.{fits, accepted, below-refuses, below-accepts, nothing-later, granted-again}
 use Rattle.tulvekas.proofs.CipherAnswers.{trace-bad-key, trace-walks}
 use Rattle.claims_c.specs.ThroughC.{Told, TracesThroughC}
@@ -46,10 +49,14 @@ module _ (key iv : Bytes) (mode : ℕ) (out : List ℕ) where
   later : ℕ
   later = refuse (ltb most-blocks n) count-too-high 0
 
-  -- room for the blocks that fit is always there
-  run-is : run-number (length out) n ≡ later
+  -- from a count of 0 a run is refused by its own length alone, and room for the blocks that fit is always there
+  run-is : run-number forward 0 (length out) n ≡ later
   unfolding run-number n later
-  run-is = rw (le-ltb (length out) (16 * fitting out) (omega arith))
+  run-is = rw (zero-add n, le-ltb (length out) (16 * fitting out) (omega arith)) (go (ltb most-blocks n))
+    where
+      go : (b : Bool) → refuse (b || b) count-too-high 0 ≡ refuse b count-too-high 0
+      go true = refl
+      go false = refl
 
   s : Registers
   s = start (key .list) (iv .list) (mode-named mode)
@@ -58,10 +65,10 @@ module _ (key iv : Bytes) (mode : ℕ) (out : List ℕ) where
   all = blocks forward n s
 
   drawn : List ℕ
-  drawn = run-part forward s (length out) n
+  drawn = run-part forward (started (key .list) (iv .list) (mode-named mode)) (length out) n
 
   part-is : drawn ≡ granted later all []
-  unfolding drawn all run-part
+  unfolding drawn all run-part s
   part-is = ap (λ (i : ℕ). granted i (blocks forward n s) []) run-is
 
   written : List ℕ → List ℕ
@@ -97,21 +104,21 @@ module _ (key iv : Bytes) (mode : ℕ) (out : List ℕ) where
       go false e =
           ap (λ (i : ℕ). granted i (all ++ drop (16 * n) out) out) (sym (below-refuses number later (eqb-false number 0 e))) ∙ rw e
 
-  pub keystream : let blocks = run-part forward (start (key .list) (iv .list) (mode-named mode)) (length out) (fitting out) in
-      (keystream-answer (key .list) (iv .list) out ≡ next (start-number (key .list) (iv .list)) (run-number (length out) (fitting out)))
+  pub keystream : let blocks = run-part forward (started (key .list) (iv .list) (mode-named mode)) (length out) (fitting out) in
+      (keystream-answer (key .list) (iv .list) out ≡ next (start-number (key .list) (iv .list)) (run-number forward 0 (length out) (fitting out)))
       × (keystream-writes (key .list) (iv .list) mode out ≡ granted (start-number (key .list) (iv .list)) (blocks ++ drop (length blocks) out) out)
   unfolding keystream-answer n number later s all drawn written
   keystream = (ap (next number) (sym run-is), writes)
 
 -- ---- trace
 
-module _ (s key : List ℕ) (n : ℕ) (long : length s ≡ 112) where
-  trace-is : trace (registers-at s) key n ≡ trace-of-bytes s key n
+module _ (s key : List ℕ) (long : length s ≡ 120) where
+  trace-is : trace (state-in s) key ≡ trace-of-bytes s key
   trace-is = go (eqb (length key) 32) refl
     where
-      go : (b : Bool) → eqb (length key) 32 ≡ b → trace (registers-at s) key n ≡ trace-of-bytes s key n
-      go true e = trace-walks s key n (eqb-true (length key) 32 e) long
-      go false e = sym (answers.trace-bad-key (registers-at s) key n (eqb-false (length key) 32 e)) ∙ trace-bad-key s key n (eqb-false (length key) 32 e)
+      go : (b : Bool) → eqb (length key) 32 ≡ b → trace (state-in s) key ≡ trace-of-bytes s key
+      go true e = trace-walks s key (eqb-true (length key) 32 e) long
+      go false e = sym (answers.trace-bad-key (state-in s) key (eqb-false (length key) 32 e)) ∙ trace-bad-key s key (eqb-false (length key) 32 e)
 
   told : (a : Traced) (iv sb : List ℕ) → 16 ≤ length iv → 1 ≤ length sb → Told a iv sb (trace-answer a iv sb) (trace-iv a iv sb) (trace-sealed a iv sb)
   unfolding trace-answer trace-iv trace-sealed
@@ -120,18 +127,23 @@ module _ (s key : List ℕ) (n : ℕ) (long : length s ≡ 112) where
       (sym z, (sym (accepted z (v ++ drop 16 iv) iv), sym (accepted z (mode-byte m ∷ drop 1 sb) sb)))
   told (refused i) iv sb h k = (refl, (refl, refl))
 
-  pub tells : TracesThroughC s key n (trace (registers-at s) key n)
+  tells : TracesThroughC s key (trace (state-in s) key)
   tells iv sb h k =
-      subst (λ (a : Traced). Told (trace (registers-at s) key n) iv sb (trace-answer a iv sb) (trace-iv a iv sb) (trace-sealed a iv sb)) trace-is
-      (told (trace (registers-at s) key n) iv sb h k)
+      subst (λ (a : Traced). Told (trace (state-in s) key) iv sb (trace-answer a iv sb) (trace-iv a iv sb) (trace-sealed a iv sb)) trace-is
+      (told (trace (state-in s) key) iv sb h k)
 
-pub traces : (state key : Bytes) (count : ℕ) → length (state .list) ≡ 112
-    → (a : Traced) × (Traces (registers-at (state .list)) (key .list) count a × TracesThroughC (state .list) (key .list) count a)
-traces state key n long = (
-  trace (registers-at (state .list)) (key .list) n,
+-- from the bytes of a state trace tells what it finds from the state
+pub tells-state : (s : State) → SizedState s → (key : List ℕ) {a : Traced} → trace s key ≡ a → TracesThroughC (state-bytes s) key a
+tells-state s g key e =
+    subst (TracesThroughC (state-bytes s) key) (ap (λ (u : State). trace u key) (state-whole s g) ∙ e) (tells (state-bytes s) key (state-row s g .long))
+
+pub traces : (state key : Bytes) → length (state .list) ≡ 120
+    → (a : Traced) × (Traces (state-in (state .list)) (key .list) a × TracesThroughC (state .list) (key .list) a)
+traces state key long = (
+  trace (state-in (state .list)) (key .list),
   (
-    trace-law (registers-at (state .list)) (at-good (state .list) (row-of state long)) (key .list) n (key .below),
-    tells (state .list) (key .list) n long,
+    trace-law (state-in (state .list)) (listed-sized (state .list) (row-of state long) .registers-good) (key .list) (key .below),
+    tells (state .list) (key .list) long,
   ),
 )
 

@@ -45,7 +45,7 @@ module _ (key iv : List ℕ) (k : Row 32 256 key) (v : IsBlock iv) (g : Stage) (
         phase-byte = phase-byte g;
         ad-fits = let l = w .ad-fits in omega arith;
         text-fits = let l = w .text-fits in omega arith;
-        registers-good = registers-good key iv k v g;
+        state-sized = record { registers-good = registers-good key iv k v g; count-fits = let l = w .text-fits in omega arith };
         h-block = stream-block key iv k v 0;
         pad-block = stream-block key iv k v 1;
         current-block = stream-block key iv k v _;
@@ -55,17 +55,17 @@ module _ (key iv : List ℕ) (k : Row 32 256 key) (v : IsBlock iv) (g : Stage) (
 
 -- ---- calls on the bytes of a session
 
--- 216 bytes are filled by a session's
-pub stored : (u : Session) (b : List ℕ) → length b ≡ 216 → left 0 u b ≡ session-bytes u
+-- 224 bytes are filled by a session's
+pub stored : (u : Session) (b : List ℕ) → length b ≡ 224 → left 0 u b ≡ session-bytes u
 stored u b e =
-    let none : drop 216 b ≡ [] = ap (λ (k : ℕ). drop k b) (sym e) ∙ drop-length b in
+    let none : drop 224 b ≡ [] = ap (λ (k : ℕ). drop k b) (sym e) ∙ drop-length b in
     ap (λ (r : List ℕ). session-bytes u ++ r) none ∙ append-nil (session-bytes u)
 
 module _ (s : Session) (g : Sized s) where
   unfoldable pub bytes : List ℕ
   bytes = session-bytes s
 
-  long : length bytes ≡ 216
+  long : length bytes ≡ 224
   unfolding bytes
   long = session-row s g .long
 
@@ -144,11 +144,11 @@ module _ (s : Session) (g : Sized s) where
 
   -- resumed from a block that gives it back, into any buffers with room
   module _ (key iv block : List ℕ) (back : resume-call key block ≡ record { number = 0; iv = iv; session = s }) (fresh into : List ℕ)
-      (room-216 : 216 ≤ length fresh) (room-16 : 16 ≤ length into) where
+      (room-224 : 224 ≤ length fresh) (room-16 : 16 ≤ length into) where
     pub answered : resume-answer key block fresh into ≡ 0
-    answered = sym (resume-right key block fresh into refl (ap (λ (r : Resumed). r .number) back) room-216 room-16)
+    answered = sym (resume-right key block fresh into refl (ap (λ (r : Resumed). r .number) back) room-224 room-16)
 
-    pub resumed-left : left (resume-answer key block fresh into) (resume-call key block .session) fresh ≡ bytes ++ drop 216 fresh
+    pub resumed-left : left (resume-answer key block fresh into) (resume-call key block .session) fresh ≡ bytes ++ drop 224 fresh
     unfolding bytes
     resumed-left = ap₂ (λ (n : ℕ) (u : Session). left n u fresh) answered (ap (λ (r : Resumed). r .session) back)
 
@@ -173,12 +173,12 @@ module _ (s : Session) (g : Sized s) where
       goes : (n : ℕ) → (o : List ℕ) → List ℕ
       goes n o = granted n (gives (take 512 o)) bytes
 
-      none : drop 216 (f .session) ≡ []
+      none : drop 224 (f .session) ≡ []
       none = ap (λ (k : ℕ). drop k (f .session)) (sym (f .session-long)) ∙ drop-length (f .session)
 
       go : (v : Bool) → eqb (suspend-call s (out .list) .number) 0 ≡ v → granted (suspend-call s (out .list) .number) (gives block) bytes ≡ bytes
       go true e =
-          let long : 216 ≤ length (f .session) = let l = f .session-long in omega arith in
+          let long : 224 ≤ length (f .session) = let l = f .session-long in omega arith in
           rw e (resumed-left key iv block (back (eqb-true _ 0 e)) (f .session) (f .iv) long (f .iv-room)
           ∙ ap (λ (r : List ℕ). bytes ++ r) none ∙ append-nil bytes)
       go false e = rw e

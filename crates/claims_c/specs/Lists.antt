@@ -1,27 +1,31 @@
--- The lists of calls of demands 2 and 3 (crates/claims/specs/Lists.antt) as C makes them, on a session in 216 lent bytes: what the contracts of the
--- calls for C say, one call after the other.
+-- The lists of calls of demands 2 and 3 (crates/claims/specs/Lists.antt) as C makes them, on a session in 224 lent bytes and on a state in 120: what the
+-- contracts of the calls for C say, one call after the other.
 use Prim.Native.Nat.{ℕ, _≤_}
 use mathlib.Core.Path.{_≡_}
 use mathlib.Core.List.{List, [], _∷_}
 use lib.ListN.{length, take}
 use Rattle.scope.specs.Refusals.{granted}
+use Rattle.cipher.specs.State.{State, moved}
+use Rattle.start.specs.Start.{started}
 use Rattle.session.specs.Session.{Session}
 use Rattle.session.specs.Calls.{begin-call, data-call, text-call}
 use Rattle.suspend.specs.Walk.{resume-call}
-use Rattle.claims.specs.Lists.{Bytes, Call, Call.give-data, Call.give-text, Call.suspend-alone, Call.suspend-and-resume}
+use Rattle.claims.specs.Lists.{Bytes, Call, Call.give-data, Call.give-text, Call.suspend-alone, Call.suspend-and-resume, Run}
 use Rattle.tulvekas.specs.Order.{buffer-after}
+use Rattle.tulvekas.specs.StateBytes.{state-bytes, state-in}
 use Rattle.tulvekas.specs.SessionBytes.{session-bytes, session-in}
+use Rattle.tulvekas.specs.Cipher.{mode-named, back-named, start-answer, run-answer}
 use Rattle.tulvekas.specs.Sessions.{begin-answer, data-answer, text-answer, suspend-answer, suspend-writes, resume-answer}
 
 -- what a call that answers n and gives the session g leaves in a lent session, as `Leaves` says
 abbrev pub left : ℕ → Session → (session : List ℕ) → List ℕ
-left n g b = buffer-after n 216 (session-bytes g) b
+left n g b = buffer-after n 224 (session-bytes g) b
 
--- what a resume is lent: 216 bytes for the session and room for the IV, whatever stands in them
+-- what a resume is lent: 224 bytes for the session and room for the IV, whatever stands in them
 pub record Buffers : Type 0 where
   pub session : List ℕ
   pub iv : List ℕ
-  pub session-long : length session ≡ 216
+  pub session-long : length session ≡ 224
   pub iv-room : 16 ≤ length iv
 
 -- a call, and what a resume in it is lent
@@ -52,3 +56,22 @@ c-after key iv b cs =
 unfoldable pub below : List CCall → List Call
 below [] = []
 below (c ∷ cs) = c .call ∷ below cs
+
+-- ---- lists of the second kind, on a state in 120 lent bytes
+
+-- what a call that answers n and gives the state g leaves in a lent state, as `LeavesState` says
+abbrev pub left-state : ℕ → State → (state : List ℕ) → List ℕ
+left-state n g s = buffer-after n 120 (state-bytes g) s
+
+-- a run of n blocks in a direction: the bytes of the state afterwards
+abbrev pub c-run : (state : List ℕ) (n back : ℕ) (out : List ℕ) → List ℕ
+c-run s n back out = left-state (run-answer s n back out) (moved (back-named back) n (state-in s)) s
+
+unfoldable pub c-runs : (state : List ℕ) → List Run → List ℕ
+c-runs s [] = s
+c-runs s (r ∷ rs) = c-runs (c-run s (r .n) 0 (r .out .list)) rs
+
+-- the whole list, from start on
+abbrev pub c-course : (key iv : Bytes) (mode : ℕ) → (state : List ℕ) → List Run → List ℕ
+c-course key iv mode s rs =
+    c-runs (left-state (start-answer (key .list) (iv .list) s) (started (key .list) (iv .list) (mode-named mode)) s) rs

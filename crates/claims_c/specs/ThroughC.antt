@@ -1,19 +1,21 @@
 -- That through C nothing is otherwise, so that the demands hold there as well. proofs/ThroughC.antt proves it.
-use Prim.Native.Nat.{ℕ, _≤_}
+use Prim.Native.Nat.{ℕ, _*_, _≤_}
 use mathlib.Core.Path.{_≡_}
+use mathlib.Core.Bool.{not}
 use mathlib.Core.List.{List, _∷_, _++_}
 use lib.ListN.{length, take, drop}
 use Rattle.scope.specs.Refusals.{granted}
-use Rattle.words.specs.Bytes.{little, part}
-use Rattle.cipher.specs.Run.{forward, run-number, run-part}
-use Rattle.start.specs.Start.{Mode.sealed, start, start-number}
+use Rattle.words.specs.Bytes.{little}
+use Rattle.cipher.specs.Run.{forward}
+use Rattle.cipher.specs.State.{State, run-number, run-state, run-part}
+use Rattle.start.specs.Start.{Mode.sealed, started, start-number}
 use Rattle.start.specs.Leads.{Traced, Traced.origin, Traced.refused, Traces}
-use Rattle.session.specs.Session.{Session, drawn-at}
+use Rattle.session.specs.Session.{Session}
 use Rattle.session.specs.Calls.{data-call, text-call, finish-call}
-use Rattle.layout.specs.Block.{registers-at}
-use Rattle.suspend.specs.Calls.{suspend-call}
+use Rattle.layout.specs.Block.{read}
+use Rattle.suspend.specs.Calls.{state-of, suspend-call}
 use Rattle.suspend.specs.Walk.{resume-call}
-use Rattle.claims.specs.Lists.{Bytes, after}
+use Rattle.claims.specs.Lists.{Bytes, Run, course, after}
 use Rattle.claims.specs.Claims.{Keyed}
 use Rattle.page.specs.Calls.{seal-number, seal-out, seal-tag}
 use Rattle.page_file.specs.Calls as Files
@@ -21,10 +23,11 @@ use Rattle.page_file.specs.Calls.{Opened, open-out, open-answer}
 use Rattle.tulvekas.specs.Order.{next}
 use Rattle.tulvekas.specs.Pages.{seal-answer, seal-writes, seal-writes-tag}
 use Rattle.tulvekas.specs.Files.{file-open-answer, file-open-writes, file-open-length}
+use Rattle.tulvekas.specs.StateBytes.{state-bytes, state-in}
 use Rattle.tulvekas.specs.SessionBytes.{session-bytes, session-in}
 use Rattle.tulvekas.specs.Sessions.{data-answer, text-answer, text-writes, finish-answer, finish-writes, suspend-answer, suspend-writes, resume-answer, resume-writes}
-use Rattle.tulvekas.specs.Cipher.{mode-named, fitting, keystream-answer, keystream-writes, mode-byte, trace-of-bytes, trace-answer, trace-iv, trace-sealed}
-use Rattle.claims_c.specs.Lists.{left, CCall, c-after, below}
+use Rattle.tulvekas.specs.Cipher.{mode-named, fitting, keystream-answer, keystream-writes, back-named, run-answer, run-writes, state-of-answer, mode-byte, trace-of-bytes, trace-answer, trace-iv, trace-sealed}
+use Rattle.claims_c.specs.Lists.{left, CCall, c-after, below, left-state, c-run, c-course}
 
 -- bytes b on which every call for C answers and writes what the call below does on the session s
 pub record Stands (b : List ℕ) (s : Session) : Type 0 where
@@ -47,7 +50,7 @@ pub record ResumesThroughC (key iv b out session into : List ℕ) : Type 0 where
   pub answered : resume-answer key (take 512 (suspend-writes b out)) session into ≡ 0
   pub same-bytes :
       left (resume-answer key (take 512 (suspend-writes b out)) session into) (resume-call key (take 512 (suspend-writes b out)) .session) session
-      ≡ b ++ drop 216 session
+      ≡ b ++ drop 224 session
   pub same-iv : resume-writes key (take 512 (suspend-writes b out)) session into ≡ iv ++ drop 16 into
 
 -- what C is told of an answer to trace, in two buffers with room: the number, and what stands in them
@@ -56,10 +59,25 @@ Told (origin v m) iv sb n iv′ sb′ = (n ≡ 0) × ((iv′ ≡ v ++ drop 16 iv
 Told (refused k) iv sb n iv′ sb′ = (n ≡ k) × ((iv′ ≡ iv) × (sb′ ≡ sb))
 
 -- trace through C from these bytes tells this
-abbrev pub TracesThroughC : (state key : List ℕ) (count : ℕ) → Traced → Type 0
-TracesThroughC s key n a =
+abbrev pub TracesThroughC : (state key : List ℕ) → Traced → Type 0
+TracesThroughC s key a =
     (iv sb : List ℕ) → 16 ≤ length iv → 1 ≤ length sb
-    → Told a iv sb (trace-answer (trace-of-bytes s key n) iv sb) (trace-iv (trace-of-bytes s key n) iv sb) (trace-sealed (trace-of-bytes s key n) iv sb)
+    → Told a iv sb (trace-answer (trace-of-bytes s key) iv sb) (trace-iv (trace-of-bytes s key) iv sb) (trace-sealed (trace-of-bytes s key) iv sb)
+
+-- bytes b from which every run, either way, answers, writes and leaves what the run below does from the state s
+pub record StandsState (b : List ℕ) (s : State) : Type 0 where
+  pub bytes : b ≡ state-bytes s
+  pub lists : state-in b ≡ s
+  pub run-answers : (n back : ℕ) (out : List ℕ) → run-answer b n back out ≡ run-number (back-named back) (s .count) (length out) n
+  pub run-output : (n back : ℕ) (out : List ℕ)
+      → let blocks = run-part (back-named back) s (length out) n in run-writes b n back out ≡ blocks ++ drop (length blocks) out
+  pub run-left : (n back : ℕ) (out : List ℕ) → c-run b n back out ≡ state-bytes (run-state (back-named back) s (length out) n)
+
+-- `state_of` a block is answered 0 and leaves the bytes of this state, from which trace through C tells this
+pub record NamedThroughC (key block state : List ℕ) (s : State) (a : Traced) : Type 0 where
+  pub answered : state-of-answer block state ≡ 0
+  pub bytes : left-state (state-of-answer block state) (state-of (read block)) state ≡ state-bytes s
+  pub traced : TracesThroughC (left-state (state-of-answer block state) (state-of (read block)) state) key a
 
 -- what C is told of an answer to open from a page file, with room for the length: the number, and what stands in the length's buffer
 abbrev pub ToldOpened : Opened → (len : List ℕ) → ℕ → (len′ : List ℕ) → Type 0
@@ -68,11 +86,11 @@ ToldOpened (Files.Opened.refused k) len n len′ = (n ≡ k) × (len′ ≡ len)
 
 pub record ThroughC : Type 0 where
   -- Through C every list of calls leaves the bytes of the session that the same list leaves below, whatever stood in them before.
-  pub stands : (key iv : Bytes) → Keyed key iv → (session : List ℕ) → length session ≡ 216 → (cs : List CCall)
+  pub stands : (key iv : Bytes) → Keyed key iv → (session : List ℕ) → length session ≡ 224 → (cs : List CCall)
       → Stands (c-after key iv session cs) (after key iv (below cs) .session)
   -- After every list a session that is suspended and resumed has the very bytes that it had.
-  pub resumed : (key iv : Bytes) → Keyed key iv → (session : List ℕ) → length session ≡ 216 → (cs : List CCall) (out : Bytes) → 512 ≤ length (out .list)
-      → (fresh into : List ℕ) → 216 ≤ length fresh → 16 ≤ length into
+  pub resumed : (key iv : Bytes) → Keyed key iv → (session : List ℕ) → length session ≡ 224 → (cs : List CCall) (out : Bytes) → 512 ≤ length (out .list)
+      → (fresh into : List ℕ) → 224 ≤ length fresh → 16 ≤ length into
       → ResumesThroughC (key .list) (iv .list) (c-after key iv session cs) (out .list) fresh into
   -- With room for the tag, seal answers and writes what seal below does; open is the very call below.
   pub seals : (key iv ad text out tag : List ℕ) → 16 ≤ length tag
@@ -85,13 +103,25 @@ pub record ThroughC : Type 0 where
       × (file-open-writes key stay n file out len ≡ open-out key stay n file out)
   -- Keystream answers and writes what start and a run forward of as many whole blocks as fit do.
   pub keystream : (key iv : Bytes) (mode : ℕ) (out : List ℕ)
-      → let blocks = run-part forward (start (key .list) (iv .list) (mode-named mode)) (length out) (fitting out) in
-      (keystream-answer (key .list) (iv .list) out ≡ next (start-number (key .list) (iv .list)) (run-number (length out) (fitting out)))
+      → let blocks = run-part forward (started (key .list) (iv .list) (mode-named mode)) (length out) (fitting out) in
+      (keystream-answer (key .list) (iv .list) out ≡ next (start-number (key .list) (iv .list)) (run-number forward 0 (length out) (fitting out)))
       × (keystream-writes (key .list) (iv .list) mode out ≡ granted (start-number (key .list) (iv .list)) (blocks ++ drop (length blocks) out) out)
-  -- Trace tells the answer that `Traces` says of the registers that 112 bytes list: an IV and mode exactly if they lead there.
-  pub traces : (state key : Bytes) (count : ℕ) → length (state .list) ≡ 112
-      → (a : Traced) × (Traces (registers-at (state .list)) (key .list) count a × TracesThroughC (state .list) (key .list) count a)
-  -- A state names its stay: after every list, trace from bytes 16 to 127 of what suspend wrote, at the blocks drawn, tells the begin's IV and sealed mode.
-  pub names : (key iv : Bytes) → Keyed key iv → (session : List ℕ) → length session ≡ 216 → (cs : List CCall) (out : Bytes) → 512 ≤ length (out .list)
-      → TracesThroughC (part 16 112 (suspend-writes (c-after key iv session cs) (out .list))) (key .list) (drawn-at (length (after key iv (below cs) .text)))
+  -- Through C every list of runs leaves the bytes of the state that the same list leaves below, its count with it, whatever stood in them before.
+  pub stands-state : (key iv : Bytes) → Keyed key iv → (mode : ℕ) (state : List ℕ) → length state ≡ 120 → (rs : List Run)
+      → StandsState (c-course key iv mode state rs) (course key iv (mode-named mode) rs .state)
+  -- From any 120 bytes a run that is accepted, and one of as many blocks the other way with room for them, leave the very bytes.
+  pub returned : (state : Bytes) → length (state .list) ≡ 120 → (n back there : ℕ) → back-named there ≡ not (back-named back) → (out into : List ℕ)
+      → run-answer (state .list) n back out ≡ 0 → 16 * n ≤ length into
+      → (run-answer (c-run (state .list) n back out) n there into ≡ 0) × (c-run (c-run (state .list) n back out) n there into ≡ state .list)
+  -- Trace tells the answer that `Traces` says of the state that 120 bytes list: an IV and mode exactly if they lead there.
+  pub traces : (state key : Bytes) → length (state .list) ≡ 120
+      → (a : Traced) × (Traces (state-in (state .list)) (key .list) a × TracesThroughC (state .list) (key .list) a)
+  -- A state names its stay: after every list, `state_of` makes of the 512 bytes that suspend wrote the bytes of the session's own state, its count with it,
+  -- and trace from them tells the begin's IV and sealed mode,
+  pub names : (key iv : Bytes) → Keyed key iv → (session : List ℕ) → length session ≡ 224 → (cs : List CCall) (out : Bytes) → 512 ≤ length (out .list)
+      → (state : List ℕ) → length state ≡ 120
+      → NamedThroughC (key .list) (take 512 (suspend-writes (c-after key iv session cs) (out .list))) state (after key iv (below cs) .session .state)
       (origin (iv .list) sealed)
+  -- and trace from the bytes that a list of runs leaves tells its start's IV and mode.
+  pub names-run : (key iv : Bytes) → Keyed key iv → (mode : ℕ) (state : List ℕ) → length state ≡ 120 → (rs : List Run)
+      → TracesThroughC (c-course key iv mode state rs) (key .list) (origin (iv .list) (mode-named mode))

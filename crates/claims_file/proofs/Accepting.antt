@@ -9,9 +9,9 @@ use lib.Dec.{eqb, leb, ltb, lit<}
 use lib.ListN.{length}
 use Rattle.scope.specs.Limits.{most-page-text, last-day}
 use Rattle.scope.specs.Refusals.{refuse, key-length, iv-length, too-long, day-range, bad-file}
-use Rattle.page.proofs.WholeCalls.{refuse-none}
+use Rattle.scope.proofs.Refusing.{refuse-none}
 use Rattle.page_file.specs.Calls.{seal-number}
-use Rattle.page_file.proofs.Pages.{or-none}
+use Rattle.words.proofs.Tests.{neither}
 use Rattle.claims_file.specs.Claims.{Sealable, Place}
 
 module _ (key stay : List ℕ) (day : ℕ) (t f : List ℕ) (i : ℕ) where
@@ -27,7 +27,7 @@ module _ (key stay : List ℕ) (day : ℕ) (t f : List ℕ) (i : ℕ) where
       let b = refuse-none v iv-length (refuse l too-long (refuse d day-range (refuse p bad-file 0))) (lit< tt) (a .1) in
       let c = refuse-none l too-long (refuse d day-range (refuse p bad-file 0)) (lit< tt) (b .1) in
       let g = refuse-none d day-range (refuse p bad-file 0) (lit< tt) (c .1) in
-      let h = or-none (not (eqb (length f % 512) 0)) (leb (length f) (512 * i)) (refuse-none p bad-file 0 (lit< tt) (g .1) .0) in (
+      let h = neither (not (eqb (length f % 512) 0)) (leb (length f) (512 * i)) (refuse-none p bad-file 0 (lit< tt) (g .1) .0) in (
         record {
           key-long = eqb-true (length key) 32 (not-false (eqb (length key) 32) (a .0));
           stay-long = eqb-true (length stay) 12 (not-false (eqb (length stay) 12) (b .0));

@@ -20,7 +20,7 @@ use Rattle.fields.specs.Fields.{every, all-zero}
 use Rattle.fields.proofs.Zeros.{all-zero-zeros}
 use Rattle.page.specs.Page.{cipher-of, tag-for, page-tag}
 use Rattle.page.proofs.Ciphertext.{cipher-length, cipher-twice}
-use Rattle.page.proofs.WholeCalls.{refuse-none}
+use Rattle.scope.proofs.Refusing.{refuse-none}
 use Rattle.page_file.specs.Layout.{stay-of, page-number, departure, text-length, cipher-in, tag-in, iv-of, ad-of}
 use Rattle.page_file.specs.Layout.{header, padded-text, sealed-under, sealed-page}
 use Rattle.page_file.specs.File.{cut, pages, whole-pages, in-range, in-order, of-stay, lacks, stay-in-order, named}

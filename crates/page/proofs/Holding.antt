@@ -57,7 +57,7 @@ module _ (key iv : List ℕ) where
       absorb-hash-block h _ 0 (cipher-of key iv t) (settled-block h (ad-sum h d) (length d) (absorb-hash-block h (fresh zeros) 0 d zeros-block))
 
   module _ (k : Row 32 256 key) (v : IsBlock iv) where
-    pub registers-good : (g : Stage) → IsRegisters (session-at key iv g .registers)
+    pub registers-good : (g : Stage) → IsRegisters (session-at key iv g .state .registers)
     unfolding session-at
     registers-good g = drawn-good key iv k v (drawn-at (length (text-of g)))
 

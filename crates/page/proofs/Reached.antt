@@ -46,7 +46,7 @@ module _ (key iv : List ℕ) where
         phase = session-at key iv g .phase;
         ad = session-at key iv g .ad;
         text = session-at key iv g .text;
-        registers = session-at key iv g .registers;
+        state = session-at key iv g .state;
         h = session-at key iv g .h;
         pad = session-at key iv g .pad;
         current = session-at key iv g .current;

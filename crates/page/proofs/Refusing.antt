@@ -1,6 +1,6 @@
 -- The numbers of seal and open by what they find, and what a refused one leaves. Either order begins with that of a start.
 use mathlib.Core.Path.{_≡_, refl, sym, ap, _∙_}
-use mathlib.Core.Bool.{Bool, true, false, not, _||_, true≢false}
+use mathlib.Core.Bool.{Bool, true, false, not}
 use mathlib.Core.List.{List}
 use Prim.Native.Nat.{ℕ, _≤_, _<_}
 use native.Mathlib.Omega.{arith}
@@ -10,6 +10,7 @@ use lib.ListN.{length}
 use Rattle.scope.specs.Limits.{most-data, most-text}
 use Rattle.scope.specs.Refusals.{refuse}
 use Rattle.words.specs.Bytes.{zeros, same}
+use Rattle.words.proofs.Tests.{neither}
 use Rattle.start.specs.Start.{start-number}
 use Rattle.page.specs.Page.{tag-for}
 use Rattle.page.specs.Calls.{over-limit, seal-number, seal-out, seal-tag, open-number, open-out}
@@ -22,10 +23,6 @@ over-data d t h = rw (lt-ltb most-data (length d) h)
 
 pub by-text : (d t : List ℕ) → length d ≤ most-data → ltb most-text (length t) ≡ over-limit d t
 by-text d t h = rw (le-ltb most-data (length d) h)
-
-neither : (a b : Bool) → (a || b) ≡ false → (a ≡ false) × (b ≡ false)
-neither true b e = (e, absurd (true≢false e))
-neither false b e = (refl, e)
 
 pub within : (d t : List ℕ) → over-limit d t ≡ false → (length d ≤ most-data) × (length t ≤ most-text)
 within d t e =

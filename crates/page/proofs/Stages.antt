@@ -12,10 +12,10 @@ use lib.ListN.{length, getD, length-append}
 use Rattle.scope.specs.Refusals.{pick}
 use Rattle.words.specs.Xor.{_⊕_}
 use Rattle.words.specs.Bytes.{zeros}
-use Rattle.cipher.specs.Registers.{Registers}
-use Rattle.cipher.specs.Step.{step}
-use Rattle.cipher.specs.Run.{forward, move, moves}
-use Rattle.start.specs.Start.{Mode.sealed, start, sealed-keystream}
+use Rattle.cipher.specs.Run.{forward, moves}
+use Rattle.cipher.specs.State.{State, moved}
+use Rattle.cipher.proofs.Stepping.{moved-more}
+use Rattle.start.specs.Start.{Mode.sealed, started, sealed-keystream}
 use Rattle.digest.specs.Sum.{Sum, fresh}
 use Rattle.digest.specs.Digest.{push, absorb, settled}
 use Rattle.digest.proofs.Pieces.{absorb-append, absorb-one}
@@ -55,7 +55,7 @@ module _ (key iv : List ℕ) where
         phase = phase-at g;
         ad = length (ad-of g);
         text = length (text-of g);
-        registers = moves forward (drawn-at (length (text-of g))) (start key iv sealed);
+        state = moved forward (drawn-at (length (text-of g))) (started key iv sealed);
         h = sealed-keystream key iv 0;
         pad = sealed-keystream key iv 1;
         current = sealed-keystream key iv (1 + ceil16 (length (text-of g)));
@@ -75,7 +75,7 @@ module _ (key iv : List ℕ) where
         phase = 0;
         ad = sym (length-append d p) i;
         text = 0;
-        registers = moves forward (drawn-at 0) (start key iv sealed);
+        state = moved forward (drawn-at 0) (started key iv sealed);
         h = sealed-keystream key iv 0;
         pad = sealed-keystream key iv 1;
         current = sealed-keystream key iv (1 + ceil16 0);
@@ -112,12 +112,12 @@ module _ (key iv : List ℕ) where
     byte-at b = ap (λ (c : List ℕ). b ⊕ getD c (length t % 16) 0) current-at
 
     -- one is drawn where the text has filled its blocks
-    drawn-next : (r : ℕ → Registers) → ((n : ℕ) → step (r n) ≡ r (suc n))
-        → pick (eqb (length t % 16) 0) (step (r (drawn-at (length t)))) (r (drawn-at (length t))) ≡ r (drawn-at (length t + 1))
+    drawn-next : (r : ℕ → State) → ((n : ℕ) → moved forward 1 (r n) ≡ r (suc n))
+        → pick (eqb (length t % 16) 0) (moved forward 1 (r (drawn-at (length t)))) (r (drawn-at (length t))) ≡ r (drawn-at (length t + 1))
     drawn-next r more = go (eqb (length t % 16) 0) refl
       where
         go : (c : Bool) → eqb (length t % 16) 0 ≡ c
-            → pick (eqb (length t % 16) 0) (step (r (drawn-at (length t)))) (r (drawn-at (length t))) ≡ r (drawn-at (length t + 1))
+            → pick (eqb (length t % 16) 0) (moved forward 1 (r (drawn-at (length t)))) (r (drawn-at (length t))) ≡ r (drawn-at (length t + 1))
         go true e =
             let m : length t % 16 ≡ 0 = eqb-true (length t % 16) 0 e in
             let n : suc (drawn-at (length t)) ≡ drawn-at (length t + 1) = omega arith in
@@ -127,10 +127,9 @@ module _ (key iv : List ℕ) where
             let n : drawn-at (length t) ≡ drawn-at (length t + 1) = omega arith in
             rw e (ap r n)
 
-    registers-next : pick (eqb (length t % 16) 0) (step (moves forward (drawn-at (length t)) (start key iv sealed))) (moves forward (drawn-at (length t)) (start key iv sealed))
-        ≡ moves forward (drawn-at (length t + 1)) (start key iv sealed)
-    unfolding moves move
-    registers-next = drawn-next (λ n. moves forward n (start key iv sealed)) (λ n. refl)
+    state-next : pick (eqb (length t % 16) 0) (moved forward 1 (moved forward (drawn-at (length t)) (started key iv sealed))) (moved forward (drawn-at (length t)) (started key iv sealed))
+        ≡ moved forward (drawn-at (length t + 1)) (started key iv sealed)
+    state-next = drawn-next (λ n. moved forward n (started key iv sealed)) (λ n. moved-more forward n (started key iv sealed))
 
     module _ (b : ℕ) where
       -- one byte more of the ciphertext
@@ -164,7 +163,7 @@ module _ (key iv : List ℕ) where
             phase = 1;
             ad = length d;
             text = one i;
-            registers = (registers-next ∙ ap (λ (n : ℕ). moves forward (drawn-at n) (start key iv sealed)) one) i;
+            state = (state-next ∙ ap (λ (n : ℕ). moved forward (drawn-at n) (started key iv sealed)) one) i;
             h = sealed-keystream key iv 0;
             pad = sealed-keystream key iv 1;
             current = (current-at ∙ ap (sealed-keystream key iv) c ∙ ap (λ (n : ℕ). sealed-keystream key iv (1 + ceil16 n)) one) i;

@@ -1,24 +1,23 @@
 -- Each call on a session that a list of calls reaches, as a whole: its number, its output and the session handed back.
-use mathlib.Core.Path.{_≡_, refl}
+use mathlib.Core.Path.{_≡_, refl, sym, _∙_}
 use mathlib.Core.List.{List, [], _++_}
 use mathlib.Core.Bool.{Bool, true, false, not}
 use Prim.Native.Nat.{ℕ, _+_, _≤_, _<_}
+use native.Mathlib.Nat.{zero-add}
 use native.Mathlib.Omega.{arith}
 use borrow.Author.Tests.{le-ltb, lt-ltb, ltb-false}
 use lib.Dec.{ltb, lit<}
 use lib.ListN.{length, drop}
 use Rattle.scope.specs.Limits.{most-data, most-text}
 use Rattle.scope.specs.Refusals.{refuse, out-of-phase, too-long, short-output}
+use Rattle.scope.proofs.Refusing.{refuse-none}
 use Rattle.start.proofs.Answers.{both-right}
+use Rattle.session.specs.Session.{drawn-at}
+use Rattle.session.proofs.Counts.{text-number-fits}
 use Rattle.session.specs.Calls.{begin-call, data-number, data-call, text-number, text-call, finish-number, finished, finish-call}
 use Rattle.page.specs.Page.{encrypted, page-tag}
 use Rattle.page.proofs.Stages.{Stage, Stage.taking-data, Stage.taking-text, ad-of, text-of, phase-at, session-at, begun-at, data-at, closed-at, text-taken-at, text-out-at}
 use Rattle.page.proofs.Tags.{tag-at}
-
--- what an accepted call with refusals in its order says of the first of them
-pub refuse-none : (c : Bool) (n later : ℕ) → 0 < n → refuse c n later ≡ 0 → (c ≡ false) × (later ≡ 0)
-refuse-none true n later k e = absurd (omega arith)
-refuse-none false n later k e = (refl, e)
 
 phase-below : (g : Stage) → phase-at g < 2
 unfolding phase-at
@@ -26,6 +25,10 @@ phase-below (taking-data d) = lit< tt
 phase-below (taking-text d t) = lit< tt
 
 module _ (key iv : List ℕ) where
+  pub phase-open : (g : Stage) → session-at key iv g .phase < 2
+  unfolding session-at
+  phase-open g = phase-below g
+
   pub begin-call-at : length key ≡ 32 → length iv ≡ 16
       → begin-call key iv ≡ record { number = 0; out = []; session = session-at key iv (taking-data []) }
   unfolding begin-call
@@ -55,10 +58,18 @@ module _ (key iv : List ℕ) where
   -- ---- text
 
   module _ (g : Stage) (p out : List ℕ) where
+    -- the count is that of the blocks drawn, so that no piece gets 9
+    pub text-number-is : text-number (session-at key iv g) p out
+        ≡ refuse (not (ltb (session-at key iv g .phase) 2)) out-of-phase
+        (refuse (ltb most-text (length (text-of g) + length p)) too-long (refuse (ltb (length out) (length p)) short-output 0))
+    unfolding session-at
+    text-number-is = text-number-fits (session-at key iv g) (zero-add (drawn-at (length (text-of g)))) p out
+
     pub text-number-at : length (text-of g) + length p ≤ most-text → length p ≤ length out → text-number (session-at key iv g) p out ≡ 0
-    unfolding text-number session-at
+    unfolding session-at
     text-number-at fits room =
-        rw (lt-ltb (phase-at g) 2 (phase-below g), le-ltb most-text (length (text-of g) + length p) fits, le-ltb (length out) (length p) room)
+        text-number-is
+        ∙ rw (lt-ltb (phase-at g) 2 (phase-below g), le-ltb most-text (length (text-of g) + length p) fits, le-ltb (length out) (length p) room)
 
     pub text-call-at : length (text-of g) + length p ≤ most-text → length p ≤ length out
         → text-call (session-at key iv g) p out
@@ -79,11 +90,11 @@ module _ (key iv : List ℕ) where
     -- an accepted piece of text kept to the limit and found room
     pub text-accepted : text-number (session-at key iv g) p out ≡ 0
         → (length (text-of g) + length p ≤ most-text) × (length p ≤ length out)
-    unfolding text-number session-at
+    unfolding session-at
     text-accepted n =
         let over : Bool = ltb most-text (length (text-of g) + length p) in
         let small : Bool = ltb (length out) (length p) in
-        let a = refuse-none (not (ltb (phase-at g) 2)) out-of-phase (refuse over too-long (refuse small short-output 0)) (lit< tt) n in
+        let a = refuse-none (not (ltb (phase-at g) 2)) out-of-phase (refuse over too-long (refuse small short-output 0)) (lit< tt) (sym text-number-is ∙ n) in
         let b = refuse-none over too-long (refuse small short-output 0) (lit< tt) (a .1) in
         let c = refuse-none small short-output 0 (lit< tt) (b .1) in
         (ltb-false most-text (length (text-of g) + length p) (b .0), ltb-false (length out) (length p) (c .0))

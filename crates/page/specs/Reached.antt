@@ -6,8 +6,9 @@ use mathlib.Core.Bool.{Bool, true, false}
 use mathlib.Core.List.{List, [], _++_}
 use lib.ListN.{length, replicate}
 use Rattle.ghash.specs.Hash.{ghash, whole-blocks, rest}
-use Rattle.cipher.specs.Run.{forward, moves}
-use Rattle.start.specs.Start.{Mode.sealed, start, sealed-keystream}
+use Rattle.cipher.specs.Run.{forward}
+use Rattle.cipher.specs.State.{moved}
+use Rattle.start.specs.Start.{Mode.sealed, started, sealed-keystream}
 use Rattle.digest.specs.Sum.{Sum}
 use Rattle.session.specs.Session.{Session, ceil16, drawn-at}
 use Rattle.page.specs.Page.{cipher-of, padded}
@@ -32,7 +33,7 @@ session-of key iv d t begun =
       phase = phase-of begun;
       ad = length d;
       text = length t;
-      registers = moves forward (drawn-at (length t)) (start key iv sealed);
+      state = moved forward (drawn-at (length t)) (started key iv sealed);
       h = sealed-keystream key iv 0;
       pad = sealed-keystream key iv 1;
       current = sealed-keystream key iv (1 + ceil16 (length t));

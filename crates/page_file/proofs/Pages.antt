@@ -1,7 +1,7 @@
 -- The pages of a file are its parts of 512 bytes one behind the other, so that a page in its place changes that one alone; and what is said of a list of
 -- pages is said of its parts.
 use mathlib.Core.Path.{_≡_, refl, sym, ap, ap₂, _∙_}
-use mathlib.Core.Bool.{Bool, true, false, not, _&&_, _||_, and-assoc, and-false, true≢false}
+use mathlib.Core.Bool.{Bool, true, false, not, _&&_, and-assoc, and-false}
 use mathlib.Core.List.{List, [], _∷_, _++_, map, append-assoc}
 use Prim.Native.Nat.{ℕ, zero, suc, _+_, _-_, _*_, _/_, _%_, _≤_, _<_}
 use native.Mathlib.Omega.{arith}
@@ -209,11 +209,6 @@ pub named-running : (n : ℕ) (bs : List (List ℕ)) → running 0 bs ≡ true �
 named-running n bs e h = ap (λ (m : ℕ). named m bs) (let q : n ≡ 0 + n = omega arith in q) ∙ named-from 0 n bs e h
 
 -- ---- a stay that is not refused
-
--- neither of two tests holds
-pub or-none : (a b : Bool) → (a || b) ≡ false → (a ≡ false) × (b ≡ false)
-or-none true b e = absurd (true≢false e)
-or-none false b e = (refl, e)
 
 pub in-order-holds : (n : ℕ) (bs : List (List ℕ)) → stay-in-order n bs ≡ true → (lacks n bs ≡ false) × (running 0 bs ≡ true) × (one-day bs ≡ true)
 unfolding stay-in-order

@@ -7,7 +7,7 @@ use native.Mathlib.Omega.{arith}
 use borrow.Author.Tests.{ne-eqb, ltb-false}
 use lib.Dec.{eqb, ltb, lit<}
 use lib.ListN.{length, take, drop}
-use Rattle.page.proofs.WholeCalls.{refuse-none}
+use Rattle.scope.proofs.Refusing.{refuse-none}
 use Rattle.page_file.specs.Layout.{text-length}
 use Rattle.page_file.specs.File.{pages, in-order, of-stay, stay-in-order}
 use Rattle.page_file.specs.Calls.{content, page-open-number, page-of, open-number, open-text, open-out, open-answer, Opened.written, Opened.refused}

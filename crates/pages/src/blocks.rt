@@ -3,7 +3,7 @@ ghost use Prim.Native.Nat.{_+_, _≤_};
 ghost use lib.ListN.{length};
 use crate::pieces;
 use crate::report;
-use cipher::State;
+use cipher::Registers;
 use session::Session;
 use start::Mode;
 
@@ -101,20 +101,21 @@ pub fn rules(key: &[u8], iv: &[u8]) {
     wrong_check(key, iv);
 }
 
-// The state in plain mode at the count of a session in its data, 2 blocks.
-fn plain(key: &[u8], iv: &[u8]) -> State {
+// The registers in plain mode at the count of a session in its data, 2 blocks.
+fn plain(key: &[u8], iv: &[u8]) -> Registers {
     let t = start::start(key, iv, Mode::Plain);
     let s = t.state;
     let mut answer: u64 = 0;
     let mut out: [u8; 32] = [0; 32];
     let r = cipher::run_core(s, &mut answer, &mut out, 2, false);
-    r.state
+    let u = r.state;
+    u.registers
 }
 
 fn plain_state(key: &[u8], iv: &[u8]) {
     let s = with_data(key, iv);
     let mut block = block_of(s);
-    suspended::put_state(&mut block, 16, plain(key, iv));
+    suspended::put_registers(&mut block, 16, plain(key, iv));
     line(b"state of plain mode", checked(key, &mut block));
 }
 

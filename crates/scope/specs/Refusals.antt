@@ -50,7 +50,7 @@ out-of-phase = 7
 abbrev pub bad-block : ℕ
 bad-block = 8
 
--- 9 too far: a block count over 65,538
+-- 9 too far: a block count over 65,538, of a state, of a run or of where steps forward would lead
 abbrev pub count-too-high : ℕ
 count-too-high = 9
 
@@ -74,3 +74,7 @@ bad-file = 13
 -- 14: a stay that lacks the page named, whose pages do not run 0, 1, 2 in file order, or hold different days
 abbrev pub bad-stay : ℕ
 bad-stay = 14
+
+-- 15: a step back at a count of 0, by itself or in a run
+abbrev pub before-start : ℕ
+before-start = 15

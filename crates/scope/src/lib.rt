@@ -32,6 +32,8 @@ pub const BAD_FILE: u64 = 13;
 
 pub const BAD_STAY: u64 = 14;
 
+pub const BEFORE_START: u64 = 15;
+
 // Limits: bytes of data and of text in a session, and blocks drawn.
 pub const MOST_DATA: u64 = 65535;
 

@@ -4,11 +4,11 @@ use mathlib.Core.List.{List}
 use Prim.Native.Nat.{ℕ}
 use borrow.Author.Tests.{ne-eqb}
 use Rattle.scope.specs.Refusals.{granted}
-use Rattle.cipher.specs.Registers.{Registers}
-use Rattle.start.specs.Start.{Mode.sealed, start, start-number}
+use Rattle.cipher.specs.State.{State}
+use Rattle.start.specs.Start.{Mode.sealed, started, start-number}
 use Rattle.session.specs.Calls.{begun-from, begun, no-session, begin-call}
 
-pub granted-state : (n : ℕ) (s t : Registers) → n ≡ 0 → granted n s t ≡ s
+pub granted-state : (n : ℕ) (s t : State) → n ≡ 0 → granted n s t ≡ s
 granted-state n s t e = rw e
 
 module _ (key iv : List ℕ) where
@@ -16,6 +16,6 @@ module _ (key iv : List ℕ) where
   unfolding begin-call
   refused-session h = rw (ne-eqb (start-number key iv) 0 h)
 
-  pub granted-session : start-number key iv ≡ 0 → begin-call key iv .session ≡ begun-from (start key iv sealed)
+  pub granted-session : start-number key iv ≡ 0 → begin-call key iv .session ≡ begun-from (started key iv sealed)
   unfolding begin-call begun
   granted-session e = rw e

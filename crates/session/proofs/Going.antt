@@ -11,13 +11,14 @@ use Rattle.words.proofs.Rows.{sets-append}
 use Rattle.digest.proofs.Slices.{slice-split, slice-all, headOf, tailOf}
 use Rattle.session.specs.Session.{Session}
 use Rattle.session.specs.Pieces.{text-taken, text-out}
-use Rattle.session.proofs.Pieces.{text-none, out-none, text-append, out-append, out-length, text-count, text-h}
+use Rattle.session.proofs.Pieces.{text-none, out-none, text-append, out-append, out-length, text-count, draws-few, text-h}
 
 -- the session was s and the output o; they are u and out
 pub record Going (s : Session) (p o : List ℕ) (from to : ℕ) (out : List ℕ) (u : Session) (i : ℕ) : Type 0 where
   pub since : from ≤ i
   pub bound : i ≤ to
   pub counts : u .text + (to - i) ≡ s .text + (to - from)
+  pub draws : u .state .count + (to - i) ≤ s .state .count + (to - from)
   pub key : u .h ≡ s .h
   pub size : length out ≡ length o
   pub session : u ≡ text-taken s (slice from i p)
@@ -29,6 +30,7 @@ none s p o from to h =
       since = le-refl from;
       bound = h;
       counts = refl;
+      draws = le-refl _;
       key = refl;
       size = refl;
       session = sym (ap (text-taken s) (slice-empty from p) ∙ text-none s);
@@ -47,10 +49,13 @@ module _ {s : Session} {p o : List ℕ} {from to : ℕ} {out : List ℕ} {u : Se
       let w : length (text-out s a) ≡ i - from = out-length s a ∙ length-slice from i p (omega (arith, g .bound)) in
       let at : i ≡ from + length (text-out s a) = omega (arith, g .since) in
       let x : u′ .text ≡ u .text + (m - i) = ap (λ (v : Session). v .text) eu ∙ text-count u b ∙ ap (λ (k : ℕ). u .text + k) n in
+      let f = draws-few u b in
+      let y : u′ .state .count ≤ u .state .count + (m - i) = rw (ap (λ (v : Session). v .state .count) eu, ← n) f in
       record {
         since = le-trans (g .since) him;
         bound = hmt;
         counts = omega (arith, x, g .counts, g .bound);
+        draws = omega (arith, y, g .draws, g .bound);
         key = ap (λ (v : Session). v .h) eu ∙ text-h u b ∙ g .key;
         size = ap length eo ∙ length-sets out i (text-out u b) ∙ g .size;
         session = eu ∙ ap (λ (v : Session). text-taken v b) (g .session) ∙ sym (text-append s a b) ∙ ap (text-taken s) (sym cut);
@@ -70,6 +75,10 @@ module _ {s : Session} {p o : List ℕ} {from to : ℕ} {out : List ℕ} {u : Se
 -- the length stays a u64 up to any place m
 pub counted : (u t i m n k : ℕ) → i ≤ m → m ≤ n → u + (n - i) ≡ t + (n - 0) → t + (n - 0) < k → u + (m - i) < k
 counted u t i m n k h g e f = omega arith
+
+-- and so does the count
+pub drawing : (u t i m n k : ℕ) → i ≤ m → m ≤ n → u + (n - i) ≤ t + (n - 0) → t + n < k → u + (m - i) < k
+drawing u t i m n k h g e f = omega arith
 
 pub record Parts (t n : ℕ) : Type 0 where
   pub at-start : (t + headOf t) % 16 ≡ 0

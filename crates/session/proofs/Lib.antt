@@ -5,5 +5,6 @@ pub mod Made
 pub mod Whole
 pub mod Streaming
 pub mod Numbers
+pub mod Counts
 pub mod Beginning
 pub mod Typed

@@ -4,6 +4,7 @@ use mathlib.Core.List.{List, _++_}
 use Prim.Native.Nat.{ℕ, suc, _+_, _≤_, _<_}
 use native.Mathlib.Omega.{arith}
 use borrow.Author.Tests.{eq-eqb, ne-eqb, lt-ltb, le-ltb}
+use mathlib.Core.Bool.{true, false}
 use lib.ListN.{length, drop}
 use Rattle.scope.specs.Limits.{most-data, most-text}
 use Rattle.words.specs.Bytes.{zeros}
@@ -11,7 +12,7 @@ use Rattle.session.specs.declared.Session as machine
 use Rattle.session.specs.declared.Said.{Said}
 use Rattle.session.specs.Session.{Session}
 use Rattle.session.specs.Machine.{sessionOf, Says}
-use Rattle.session.specs.Calls.{data-number, data-call, text-number, text-call, finish-number, finished, finish-call}
+use Rattle.session.specs.Calls.{data-number, data-call, text-too-far, text-number, text-call, finish-number, finished, finish-call}
 use Rattle.session.specs.Pieces.{data-taken, closed, text-taken, text-out, tag-of}
 
 module _ (s : Session) (p : List ℕ) where
@@ -36,13 +37,17 @@ module _ (s : Session) (p out : List ℕ) where
   unfolding text-number
   text-over h k = rw (lt-ltb (s .phase) 2 h, lt-ltb most-text (s .text + length p) k)
 
-  pub text-short : s .phase < 2 → s .text + length p ≤ most-text → length out < length p → text-number s p out ≡ 4
+  pub text-far : s .phase < 2 → s .text + length p ≤ most-text → text-too-far s p ≡ true → text-number s p out ≡ 9
   unfolding text-number
-  text-short h k r = rw (lt-ltb (s .phase) 2 h, le-ltb most-text (s .text + length p) k, lt-ltb (length out) (length p) r)
+  text-far h k f = rw (lt-ltb (s .phase) 2 h, le-ltb most-text (s .text + length p) k, f)
 
-  pub text-fits : s .phase < 2 → s .text + length p ≤ most-text → length p ≤ length out → text-number s p out ≡ 0
+  pub text-short : s .phase < 2 → s .text + length p ≤ most-text → text-too-far s p ≡ false → length out < length p → text-number s p out ≡ 4
   unfolding text-number
-  text-fits h k r = rw (lt-ltb (s .phase) 2 h, le-ltb most-text (s .text + length p) k, le-ltb (length out) (length p) r)
+  text-short h k f r = rw (lt-ltb (s .phase) 2 h, le-ltb most-text (s .text + length p) k, f, lt-ltb (length out) (length p) r)
+
+  pub text-fits : s .phase < 2 → s .text + length p ≤ most-text → text-too-far s p ≡ false → length p ≤ length out → text-number s p out ≡ 0
+  unfolding text-number
+  text-fits h k f r = rw (lt-ltb (s .phase) 2 h, le-ltb most-text (s .text + length p) k, f, le-ltb (length out) (length p) r)
 
 pub finish-late : (s : Session) → 2 ≤ s .phase → finish-number s ≡ 7
 unfolding finish-number
@@ -91,6 +96,6 @@ module _ (s : Session) where
   finish-tag e = rw e
 
   pub finish-ended : finish-number s ≡ 0 → finish-call s .session
-      ≡ record { phase = 2; ad = s .ad; text = s .text; registers = s .registers; h = s .h; pad = s .pad; current = s .current; sum = s .sum }
+      ≡ record { phase = 2; ad = s .ad; text = s .text; state = s .state; h = s .h; pad = s .pad; current = s .current; sum = s .sum }
   unfolding finish-call finished
   finish-ended e = rw e

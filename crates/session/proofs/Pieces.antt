@@ -2,7 +2,7 @@
 use mathlib.Core.Path.{_≡_, refl, sym, ap, _∙_}
 use mathlib.Core.Bool.{Bool, true, false}
 use mathlib.Core.List.{List, [], _∷_, _++_}
-use Prim.Native.Nat.{ℕ, suc, _+_}
+use Prim.Native.Nat.{ℕ, suc, _+_, _%_, _≤_}
 use native.Mathlib.Nat.{add-zero}
 use native.Mathlib.Decide.{ℕ-discrete}
 use native.Mathlib.Omega.{arith}
@@ -13,7 +13,10 @@ use Rattle.scope.specs.Refusals.{pick}
 use Rattle.digest.specs.Sum.{Sum}
 use Rattle.digest.specs.Digest.{absorb, settled}
 use Rattle.digest.proofs.Pieces.{absorb-append}
-use Rattle.session.specs.Session.{Session}
+use Rattle.cipher.specs.Run.{forward}
+use Rattle.cipher.specs.State.{State, moved}
+use Rattle.cipher.proofs.Stepping.{moved-none, moved-add}
+use Rattle.session.specs.Session.{Session, drawn-by}
 use Rattle.session.specs.Inner.{told, into-text}
 use Rattle.session.specs.Pieces.{data-taken, closed, byte-out, byte-taken, text-taken, text-out}
 
@@ -46,6 +49,30 @@ pub text-count : (s : Session) (p : List ℕ) → text-taken s p .text ≡ s .te
 unfolding text-taken byte-taken
 text-count s [] = sym (add-zero (s .text))
 text-count s (b ∷ p) = text-count (byte-taken s b) p ∙ omega arith
+
+-- a text takes as many steps as the definition says that it draws blocks, which are no more than it has bytes
+pub text-moves : (s : Session) (p : List ℕ) → text-taken s p .state ≡ moved forward (drawn-by (s .text) (length p)) (s .state)
+unfolding text-taken byte-taken
+text-moves s [] =
+    let e : 0 ≡ drawn-by (s .text) 0 = omega arith in
+    sym (moved-none forward (s .state)) ∙ ap (λ (k : ℕ). moved forward k (s .state)) e
+text-moves s (b ∷ p) = text-moves (byte-taken s b) p ∙ go (ℕ-discrete (s .text % 16) 0)
+  where
+    go : Dec (s .text % 16 ≡ 0)
+        → moved forward (drawn-by (s .text + 1) (length p)) (pick (eqb (s .text % 16) 0) (moved forward 1 (s .state)) (s .state))
+        ≡ moved forward (drawn-by (s .text) (suc (length p))) (s .state)
+    go (yes e) =
+        let f : 1 + drawn-by (s .text + 1) (length p) ≡ drawn-by (s .text) (suc (length p)) = omega (arith, e) in
+        rw (eq-eqb (s .text % 16) 0 e) (moved-add forward 1 (drawn-by (s .text + 1) (length p)) (s .state) ∙ ap (λ (k : ℕ). moved forward k (s .state)) f)
+    go (no e) =
+        let f : drawn-by (s .text + 1) (length p) ≡ drawn-by (s .text) (suc (length p)) = omega (arith, e) in
+        rw (ne-eqb (s .text % 16) 0 e) (ap (λ (k : ℕ). moved forward k (s .state)) f)
+
+pub text-draws : (s : Session) (p : List ℕ) → text-taken s p .state .count ≡ s .state .count + drawn-by (s .text) (length p)
+text-draws s p = ap (λ (t : State). t .count) (text-moves s p)
+
+pub draws-few : (s : Session) (p : List ℕ) → text-taken s p .state .count ≤ s .state .count + length p
+draws-few s p = let e = text-draws s p in omega (arith, e)
 
 -- what no byte changes, no text does
 pub text-keeps {ℓ} : {A : Type ℓ} (f : Session → A) → ((s : Session) (b : ℕ) → f (byte-taken s b) ≡ f s) → (s : Session) (p : List ℕ)
@@ -109,10 +136,16 @@ module _ (s : Session) where
       go (yes e) = rw (← closed-now e) (λ z. omega (arith, z))
       go (no e) = rw (← closed-already e) e
 
+  pub closed-state : closed s .state ≡ s .state
+  closed-state = closed-keeps (λ u. u .state) refl
+
 -- a text taken by the session u with its data closed
 module _ (s u : Session) (e : u ≡ closed s) where
   pub closed-count : u .text ≡ s .text
   closed-count = ap (λ (v : Session). v .text) e ∙ closed-text s
+
+  pub closed-drawn : u .state .count ≡ s .state .count
+  closed-drawn = ap (λ (v : Session). v .state .count) e ∙ ap (λ (t : State). t .count) (closed-state s)
 
   pub closed-piece : (r : Session) (p out after : List ℕ) → (r ≡ text-taken u p) × (after ≡ text-out u p ++ drop (length p) out)
       → (r ≡ text-taken (closed s) p) × (after ≡ text-out (closed s) p ++ drop (length p) out)
@@ -138,7 +171,7 @@ told-taken s p y e f =
       phase = e i;
       ad = s .ad + length p;
       text = s .text;
-      registers = s .registers;
+      state = s .state;
       h = s .h;
       pad = s .pad;
       current = s .current;
@@ -153,7 +186,7 @@ data-append s p q =
       phase = 0;
       ad = n i;
       text = s .text;
-      registers = s .registers;
+      state = s .state;
       h = s .h;
       pad = s .pad;
       current = s .current;

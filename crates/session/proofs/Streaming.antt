@@ -14,6 +14,7 @@ use Rattle.words.proofs.Writing.{put-next, read-written}
 use Rattle.cipher.specs.Registers.{Registers, IsRegisters}
 use Rattle.cipher.specs.Step.{z}
 use Rattle.cipher.specs.Run.{forward, moves, blocks}
+use Rattle.cipher.specs.State.{State}
 use Rattle.cipher.proofs.Inverse.{z-block}
 use Rattle.cipher.proofs.Moves.{moves-good, blocks-length}
 use Rattle.digest.proofs.Slices.{slice-take}
@@ -28,11 +29,11 @@ use Rattle.session.proofs.Going.{Going, none, more, whole}
 pub record Streaming (s : Session) (p o : List ℕ) (out : List ℕ) (r : Registers) (i : ℕ) : Type 0 where
   pub at : Session
   pub going : Going s p o 0 (length p) out at i
-  pub registers : r ≡ at .registers
+  pub registers : r ≡ at .state .registers
   pub good : IsRegisters r
   pub start : at .text % 16 ≡ 0
 
-pub begun : (s : Session) (p o : List ℕ) (r : Registers) → r ≡ s .registers → IsRegisters r → s .text % 16 ≡ 0 → Streaming s p o o r 0
+pub begun : (s : Session) (p o : List ℕ) (r : Registers) → r ≡ s .state .registers → IsRegisters r → s .text % 16 ≡ 0 → Streaming s p o o r 0
 begun s p o r e g h = record { at = s; going = none s p o 0 (length p) (omega arith); registers = e; good = g; start = h }
 
 module _ {s : Session} {p o : List ℕ} {out : List ℕ} {r : Registers} {i : ℕ} (g : Streaming s p o out r i) (out′ : List ℕ) where
@@ -43,7 +44,7 @@ module _ {s : Session} {p o : List ℕ} {out : List ℕ} {r : Registers} {i : �
       let start = g .start in
       let ready-long : length (ready (g .at) .current) ≡ 16 =
       ap (λ (u : Session). length (u .current)) (ready-start (g .at) start) ∙ ap (λ (q : Registers). length (z q)) (sym (g .registers)) ∙ z-block r (g .good) .long in
-      let under-block : text-out (g .at) (slice i m p) ≡ xors (slice i m p) (z (g .at .registers)) =
+      let under-block : text-out (g .at) (slice i m p) ≡ xors (slice i m p) (z (g .at .state .registers)) =
       within-out (g .at) (slice i m p) (omega arith) ready-long (omega arith) ∙ ap (λ (u : Session). masked u (slice i m p)) (ready-start (g .at) start) ∙ rw start in
       whole
       (more (g .going) out′ _ m (omega arith) (omega arith) (omega arith) refl
@@ -63,7 +64,7 @@ module _ {s : Session} {p o : List ℕ} {out : List ℕ} {r : Registers} {i : �
         at = text-taken (g .at) part;
         going = more (g .going) out′ _ (i + 16 * k) (omega arith) read (omega arith) refl
             (eo ∙ ap (λ (q : Registers). sets out i (under-blocks q k part)) (g .registers) ∙ ap (sets out i) (sym (d .output)));
-        registers = er ∙ ap (moves forward k) (g .registers) ∙ sym (d .registers);
+        registers = er ∙ ap (moves forward k) (g .registers) ∙ ap (λ (t : State). t .registers) (sym (d .state));
         good = subst IsRegisters (sym er) (moves-good forward k r (g .good));
         start = omega arith;
       }

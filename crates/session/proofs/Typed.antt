@@ -5,7 +5,7 @@ use mir.Val.{Val}
 use denote.Shadow.{shadow}
 use Rattle.words.proofs.Typed.{block-one}
 use Rattle.ghash.proofs.Typed.{same-element}
-use Rattle.cipher.proofs.Typed.{registersOf-one}
+use Rattle.cipher.proofs.Typed.{stateOf-one}
 use Rattle.session.specs.declared.Session as machine
 use Rattle.session.specs.Session.{Session}
 use Rattle.session.specs.Machine.{sessionOf}
@@ -17,7 +17,7 @@ sessionOf-one s t vs ws p q e =
     let h = same-element (s .h) (t .h) _ _ (p .1 .1 .1 .1 .1 .1 .0) (q .1 .1 .1 .1 .1 .1 .0) (ap (λ (u : Session). u .h) e) in
     let pad = block-one (s .pad) (t .pad) _ _ (p .1 .1 .1 .1 .1 .1 .1 .0) (q .1 .1 .1 .1 .1 .1 .1 .0) (ap (λ (u : Session). u .pad) e) in
     let current = block-one (s .current) (t .current) _ _ (p .1 .1 .1 .1 .1 .1 .1 .1 .0) (q .1 .1 .1 .1 .1 .1 .1 .1 .0) (ap (λ (u : Session). u .current) e) in
-    let state = registersOf-one (s .state) (t .state) _ _ (p .1 .1 .1 .1 .1 .1 .1 .1 .1 .0) (q .1 .1 .1 .1 .1 .1 .1 .1 .1 .0) (ap (λ (u : Session). u .registers) e) in
+    let state = stateOf-one (s .state) (t .state) _ _ (p .1 .1 .1 .1 .1 .1 .1 .1 .1 .0) (q .1 .1 .1 .1 .1 .1 .1 .1 .1 .0) (ap (λ (u : Session). u .state) e) in
     λ i. record {
       phase = e i .phase;
       ad = e i .ad;

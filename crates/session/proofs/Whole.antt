@@ -1,7 +1,7 @@
 -- Whole blocks of text, from the start of one: their ciphertext is the text under as many blocks of keystream, and the hash so far goes over it.
 use mathlib.Core.Path.{_≡_, sym, ap, ap₂, subst, _∙_}
 use mathlib.Core.List.{List, [], _∷_, _++_}
-use Prim.Native.Nat.{ℕ, zero, suc, _+_, _-_, _*_, _%_, _<_, _≤_, zero-le}
+use Prim.Native.Nat.{ℕ, zero, suc, _+_, _-_, _*_, _/_, _%_, _<_, _≤_, zero-le}
 use native.Mathlib.Omega.{arith}
 use native.Mathlib.Numerals.{add-one}
 use lib.ListN.{length, take, drop, take-append-drop, length-take, length-drop}
@@ -15,10 +15,12 @@ use Rattle.words.proofs.Rows.{xors-length, xors-append}
 use Rattle.ghash.specs.Hash.{hashFrom, eat}
 use Rattle.ghash.proofs.Hashing.{hash-append, hash-none, hash-one}
 use Rattle.cipher.specs.Registers.{Registers, IsRegisters}
-use Rattle.cipher.specs.Step.{z, step}
-use Rattle.cipher.specs.Run.{forward, move, made, moves, zs, blocks}
+use Rattle.cipher.specs.Step.{z}
+use Rattle.cipher.specs.Run.{forward, made, moves, zs, blocks}
+use Rattle.cipher.specs.State.{State, moved}
 use Rattle.cipher.proofs.Inverse.{z-block}
 use Rattle.cipher.proofs.Moves.{moves-good, blocks-more, blocks-length}
+use Rattle.cipher.proofs.Stepping.{moved-none, moved-more}
 use Rattle.digest.specs.Sum.{fresh}
 use Rattle.digest.proofs.Pieces.{absorb-over, absorb-whole}
 use Rattle.session.specs.Session.{Session}
@@ -48,43 +50,90 @@ module _ (s : Registers) (g : IsRegisters s) (k : ℕ) (a b : List ℕ) (ea : le
       ∙ hash-append h y (under-blocks s k a) (xors b (z (moves forward k s))) (omega arith)
       ∙ hash-one h (hashFrom h y (under-blocks s k a)) (xors b (z (moves forward k s))) block-long
 
--- the session with a track, at n bytes of text
-abbrev pub riding : Session → Track → ℕ → Session
-riding s t n =
-    record { phase = s .phase; ad = s .ad; text = n; registers = t .registers; h = s .h; pad = s .pad; current = t .current; sum = t .sum }
+-- the session with a track, at n bytes of text and so many blocks more
+abbrev pub riding : Session → Track → (n blocks : ℕ) → Session
+riding s t n k =
+    record {
+      phase = s .phase;
+      ad = s .ad;
+      text = n;
+      state = record { registers = t .registers; count = s .state .count + k };
+      h = s .h;
+      pad = s .pad;
+      current = t .current;
+      sum = t .sum;
+    }
 
 abbrev pub track : Session → Track
-track s = record { registers = s .registers; current = s .current; sum = s .sum }
+track s = record { registers = s .state .registers; current = s .current; sum = s .sum }
 
-module _ (s : Session) (g : IsRegisters (s .registers)) (start : s .text % 16 ≡ 0) where
+-- none yet, and k blocks behind m
+pub riding-none : (s : Session) (n : ℕ) → s ≡ riding s (track s) (s .text + (n - n)) ((n - n) / 16)
+riding-none s n =
+    let e : s .text ≡ s .text + (n - n) = omega arith in
+    let f : s .state .count ≡ s .state .count + (n - n) / 16 = omega arith in
+    λ i. record {
+      phase = s .phase;
+      ad = s .ad;
+      text = e i;
+      state = record { registers = s .state .registers; count = f i };
+      h = s .h;
+      pad = s .pad;
+      current = s .current;
+      sum = s .sum;
+    }
+
+pub riding-on : (s : Session) (t t′ : Track) (n n′ m k : ℕ) → riding s t n (m + k) ≡ riding (riding s t′ n′ m) t n k
+riding-on s t t′ n n′ m k =
+    let f : s .state .count + (m + k) ≡ s .state .count + m + k = omega arith in
+    λ i. record {
+      phase = s .phase;
+      ad = s .ad;
+      text = n;
+      state = record { registers = t .registers; count = f i };
+      h = s .h;
+      pad = s .pad;
+      current = t .current;
+      sum = t .sum;
+    }
+
+module _ (s : Session) (g : IsRegisters (s .state .registers)) (start : s .text % 16 ≡ 0) where
+  abbrev r : Registers
+  r = s .state .registers
+
   -- what the blocks write, and where they leave the cipher
   pub record Drawn (k : ℕ) (p : List ℕ) : Type 0 where
-    pub registers : text-taken s p .registers ≡ moves forward k (s .registers)
-    pub current : (j : ℕ) → k ≡ suc j → text-taken s p .current ≡ z (moves forward j (s .registers))
-    pub output : text-out s p ≡ under-blocks (s .registers) k p
+    pub state : text-taken s p .state ≡ moved forward k (s .state)
+    pub current : (j : ℕ) → k ≡ suc j → text-taken s p .current ≡ z (moves forward j r)
+    pub output : text-out s p ≡ under-blocks r k p
 
   drawn-more : (k : ℕ) (a b : List ℕ) → length a ≡ 16 * k → length b ≡ 16 → Drawn k a → Drawn (suc k) (a ++ b)
-  unfolding moves move
   drawn-more k a b ea eb d =
       let u = text-taken s a in
       let n = text-count s a in
       let at : u .text % 16 ≡ 0 = omega arith in
-      let long : length (z (u .registers)) ≡ 16 = ap (λ (r : Registers). length (z r)) (d .registers) ∙ z-block (moves forward k (s .registers)) (moves-good forward k (s .registers) g) .long in
+      let er : u .state .registers ≡ moves forward k r = ap (λ (t : State). t .registers) (d .state) in
+      let long : length (z (u .state .registers)) ≡ 16 = ap (λ (q : Registers). length (z q)) er ∙ z-block (moves forward k r) (moves-good forward k r g) .long in
       let on = drawn-once u b (omega arith) (omega arith) in
-      let r = ready-start u at in
+      let f = ready-start u at in
       record {
-        registers = ap (λ (v : Session). v .registers) (text-append s a b) ∙ on .0 ∙ ap (λ (v : Session). v .registers) r ∙ ap step (d .registers);
-        current = λ j e. ap (λ (v : Session). v .current) (text-append s a b) ∙ on .1 ∙ ap (λ (v : Session). v .current) r
-            ∙ ap z (d .registers) ∙ ap (λ (m : ℕ). z (moves forward m (s .registers))) (let f : k ≡ j = omega arith in f);
+        state = ap (λ (v : Session). v .state) (text-append s a b) ∙ on .0 ∙ ap (λ (v : Session). v .state) f ∙ ap (moved forward 1) (d .state)
+            ∙ moved-more forward k (s .state);
+        current = λ j e. ap (λ (v : Session). v .current) (text-append s a b) ∙ on .1 ∙ ap (λ (v : Session). v .current) f
+            ∙ ap z er ∙ ap (λ (m : ℕ). z (moves forward m r)) (let f : k ≡ j = omega arith in f);
         output = out-append s a b
-            ∙ ap₂ (λ (x y : List ℕ). x ++ y) (d .output) (block-out u b at eb long ∙ ap (λ (q : Registers). xors b (z q)) (d .registers))
-            ∙ sym (under-more (s .registers) g k a b ea eb);
+            ∙ ap₂ (λ (x y : List ℕ). x ++ y) (d .output) (block-out u b at eb long ∙ ap (λ (q : Registers). xors b (z q)) er)
+            ∙ sym (under-more r g k a b ea eb);
       }
 
   pub drawn-blocks : (k : ℕ) (p : List ℕ) → length p ≡ 16 * k → Drawn k p
-  unfolding moves blocks zs xors
+  unfolding blocks zs xors
   drawn-blocks zero [] e =
-      record { registers = ap (λ (v : Session). v .registers) (text-none s); current = λ j f. absurd (omega arith); output = out-none s }
+      record {
+        state = ap (λ (v : Session). v .state) (text-none s) ∙ sym (moved-none forward (s .state));
+        current = λ j f. absurd (omega arith);
+        output = out-none s;
+      }
   drawn-blocks zero (x ∷ p) e = absurd (omega arith)
   drawn-blocks (suc k) p e =
       let a = take (16 * k) p in
@@ -95,7 +144,7 @@ module _ (s : Session) (g : IsRegisters (s .registers)) (start : s .text % 16 �
 
   -- the session then
   pub whole-taken : (k : ℕ) (p : List ℕ) → length p ≡ 16 * k → 0 < k → length (s .sum .pending) ≡ 16
-      → text-taken s p ≡ riding s (blocks-taken (s .h) (track s) k p) (s .text + 16 * k)
+      → text-taken s p ≡ riding s (blocks-taken (s .h) (track s) k p) (s .text + 16 * k) k
   whole-taken k p e some long =
       let d = drawn-blocks k p e in
       let n = out-length s p in
@@ -103,7 +152,7 @@ module _ (s : Session) (g : IsRegisters (s .registers)) (start : s .text % 16 �
         phase = text-phase s p i;
         ad = text-ad s p i;
         text = (text-count s p ∙ ap (λ (m : ℕ). s .text + m) e) i;
-        registers = d .registers i;
+        state = d .state i;
         h = text-h s p i;
         pad = text-pad s p i;
         current = d .current (k - 1) (omega arith) i;

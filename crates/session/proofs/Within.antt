@@ -9,7 +9,9 @@ use borrow.Author.Tests.{ne-eqb}
 use lib.ListN.{length, drop, getD, set}
 use lib.Seq.{sets, drop-cons, slice, slice-cons, slice-empty}
 use Rattle.words.specs.Xor.{_⊕_, xors}
-use Rattle.cipher.specs.Step.{z, step}
+use Rattle.cipher.specs.Step.{z}
+use Rattle.cipher.specs.Run.{forward}
+use Rattle.cipher.specs.State.{moved}
 use Rattle.digest.specs.Sum.{Sum}
 use Rattle.digest.specs.Digest.{absorb}
 use Rattle.digest.proofs.Pieces.{absorb-inside, absorb-fills}
@@ -35,10 +37,10 @@ drawn s =
       phase = s .phase;
       ad = s .ad;
       text = s .text;
-      registers = step (s .registers);
+      state = moved forward 1 (s .state);
       h = s .h;
       pad = s .pad;
-      current = z (s .registers);
+      current = z (s .state .registers);
       sum = s .sum;
     }
 
@@ -50,7 +52,7 @@ ready-start s e = rw e
 
 -- a block is drawn for the first byte at most
 pub drawn-once : (s : Session) (p : List ℕ) → 0 < length p → s .text % 16 + length p ≤ 16
-    → (text-taken s p .registers ≡ ready s .registers) × (text-taken s p .current ≡ ready s .current)
+    → (text-taken s p .state ≡ ready s .state) × (text-taken s p .current ≡ ready s .current)
 unfolding text-taken byte-taken ready
 drawn-once s [] z h = absurd (omega arith)
 drawn-once s (b ∷ []) z h = (refl, refl)
@@ -58,7 +60,7 @@ drawn-once s (b ∷ d ∷ p) z h =
     let u = byte-taken s b in
     let e = drawn-once u (d ∷ p) (omega arith) (omega arith) in
     let f = ready-inside u (omega arith) in
-    (e .0 ∙ ap (λ (v : Session). v .registers) f, e .1 ∙ ap (λ (v : Session). v .current) f)
+    (e .0 ∙ ap (λ (v : Session). v .state) f, e .1 ∙ ap (λ (v : Session). v .current) f)
 
 mask-cons : (s : Session) (b : ℕ) (p : List ℕ) → length (s .current) ≡ 16
     → masked s (b ∷ p) ≡ (b ⊕ getD (s .current) (s .text % 16) 0) ∷ xors p (drop (suc (s .text % 16)) (s .current))
@@ -90,7 +92,7 @@ module _ (s : Session) (p : List ℕ) (some : 0 < length p) (long : length (read
         phase = text-phase s p i;
         ad = text-ad s p i;
         text = text-count s p i;
-        registers = d .0 i;
+        state = d .0 i;
         h = text-h s p i;
         pad = text-pad s p i;
         current = d .1 i;
@@ -116,14 +118,14 @@ module _ (s : Session) (p : List ℕ) (some : 0 < length p) (long : length (read
 
 -- ---- a whole block
 
-module _ (s : Session) (p : List ℕ) (start : s .text % 16 ≡ 0) (n : length p ≡ 16) (long : length (z (s .registers)) ≡ 16) where
+module _ (s : Session) (p : List ℕ) (start : s .text % 16 ≡ 0) (n : length p ≡ 16) (long : length (z (s .state .registers)) ≡ 16) where
   at-start : ready s ≡ drawn s
   at-start = ready-start s start
 
   drawn-long : length (ready s .current) ≡ 16
   drawn-long = ap (λ (v : Session). length (v .current)) at-start ∙ long
 
-  pub block-out : text-out s p ≡ xors p (z (s .registers))
+  pub block-out : text-out s p ≡ xors p (z (s .state .registers))
   block-out = within-out s p (omega arith) drawn-long (omega arith) ∙ ap (λ (v : Session). masked v p) at-start ∙ rw start
 
 -- ---- byte by byte, as a loop writes them: into l from place j on, text from place i on, under key bytes from place k on

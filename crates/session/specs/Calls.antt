@@ -2,55 +2,62 @@
 -- accepted call makes of the session. A refused call hands the session back as it was. Pieces and outputs are lists of bytes.
 use Prim.Native.Nat.{ℕ, _+_}
 use mathlib.Core.List.{List, [], _++_}
-use mathlib.Core.Bool.{not}
+use mathlib.Core.Bool.{Bool, not}
 use lib.Dec.{eqb, ltb}
 use lib.ListN.{length, drop}
 use Rattle.scope.specs.Limits.{most-data, most-text}
-use Rattle.scope.specs.Refusals.{refuse, granted, out-of-phase, too-long, short-output}
+use Rattle.scope.specs.Refusals.{refuse, granted, out-of-phase, too-long, count-too-high, short-output}
 use Rattle.words.specs.Bytes.{zeros}
-use Rattle.cipher.specs.Registers.{Registers}
 use Rattle.cipher.specs.Step.{z}
 use Rattle.cipher.specs.Run.{forward, moves}
-use Rattle.start.specs.Start.{Mode.sealed, start, start-number, blank}
+use Rattle.cipher.specs.State.{State, moved, too-far}
+use Rattle.start.specs.Start.{Mode.sealed, started, start-number, blank}
 use Rattle.digest.specs.Sum.{fresh}
-use Rattle.session.specs.Session.{Session}
+use Rattle.session.specs.Session.{Session, drawn-by}
 use Rattle.session.specs.Pieces.{data-taken, closed, text-taken, text-out, tag-of}
 
 -- ---- begin: 1, 2 (the numbers of a start)
 
 -- a session begun where a start leads: two blocks are drawn, H and the end pad
-abbrev pub begun-from : Registers → Session
+abbrev pub begun-from : State → Session
 begun-from s =
     record {
       phase = 0;
       ad = 0;
       text = 0;
-      registers = moves forward 2 s;
-      h = z s;
-      pad = z (moves forward 1 s);
-      current = z (moves forward 1 s);
+      state = moved forward 2 s;
+      h = z (s .registers);
+      pad = z (moves forward 1 (s .registers));
+      current = z (moves forward 1 (s .registers));
       sum = fresh zeros;
     }
 
 -- the session that an accepted begin gives
 unfoldable pub begun : (key iv : List ℕ) → Session
-begun key iv = begun-from (start key iv sealed)
+begun key iv = begun-from (started key iv sealed)
 
 -- what a refused begin hands out in a session's place: it is finished, so that every call gives 7
 abbrev pub no-session : Session
-no-session = record { phase = 2; ad = 0; text = 0; registers = blank; h = zeros; pad = zeros; current = zeros; sum = fresh zeros }
+no-session = record { phase = 2; ad = 0; text = 0; state = blank; h = zeros; pad = zeros; current = zeros; sum = fresh zeros }
 
 -- ---- data: 7, 3
 
 unfoldable pub data-number : Session → (piece : List ℕ) → ℕ
 data-number s p = refuse (not (eqb (s .phase) 0)) out-of-phase (refuse (ltb most-data (s .ad + length p)) too-long 0)
 
--- ---- text: 7, 3, 4
+-- ---- text: 7, 3, 9, 4
+
+-- 9: the blocks that the piece draws would lead the state past 65,538, or, as for a run of no block, it stands past it. In a session that was begun or
+-- resumed the text is full before the count (`never-too-far` of crates/claims/specs/Claims.antt); one that a caller made up is answered by the count that its
+-- state has.
+abbrev pub text-too-far : Session → (piece : List ℕ) → Bool
+text-too-far s p = too-far forward (drawn-by (s .text) (length p)) (s .state .count)
 
 unfoldable pub text-number : Session → (piece out : List ℕ) → ℕ
 text-number s p out =
     refuse (not (ltb (s .phase) 2)) out-of-phase
-    (refuse (ltb most-text (s .text + length p)) too-long (refuse (ltb (length out) (length p)) short-output 0))
+    (refuse (ltb most-text (s .text + length p)) too-long
+    (refuse (text-too-far s p) count-too-high (refuse (ltb (length out) (length p)) short-output 0)))
 
 -- ---- finish: 7
 
@@ -59,7 +66,7 @@ finish-number s = refuse (not (ltb (s .phase) 2)) out-of-phase 0
 
 unfoldable pub finished : Session → Session
 finished s =
-    record { phase = 2; ad = s .ad; text = s .text; registers = s .registers; h = s .h; pad = s .pad; current = s .current; sum = s .sum }
+    record { phase = 2; ad = s .ad; text = s .text; state = s .state; h = s .h; pad = s .pad; current = s .current; sum = s .sum }
 
 -- ---- each call as a whole: its number, what stands in the lent output afterwards, and the session handed back
 

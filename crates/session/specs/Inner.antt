@@ -14,8 +14,9 @@ use Rattle.wide_round.specs.Wide.{wide}
 use Rattle.ghash.specs.Hash.{eat, hashFrom}
 use Rattle.ghash.specs.Machine.{Table}
 use Rattle.cipher.specs.Registers.{Registers}
-use Rattle.cipher.specs.Step.{z, step}
+use Rattle.cipher.specs.Step.{z}
 use Rattle.cipher.specs.Run.{forward, moves, blocks}
+use Rattle.cipher.specs.State.{moved}
 use Rattle.cipher.specs.Machine.{registersOf}
 use Rattle.digest.specs.Sum.{Sum, fresh}
 use Rattle.digest.specs.Machine.{sumOf}
@@ -26,12 +27,12 @@ use Rattle.session.specs.Pieces.{byte-current}
 -- n bytes more of data, which are hashed or held in y
 abbrev pub told : Session → ℕ → (y : Sum) → Session
 told s n y =
-    record { phase = s .phase; ad = s .ad + n; text = s .text; registers = s .registers; h = s .h; pad = s .pad; current = s .current; sum = y }
+    record { phase = s .phase; ad = s .ad + n; text = s .text; state = s .state; h = s .h; pad = s .pad; current = s .current; sum = y }
 
 -- the data closed, with their hash y
 abbrev pub into-text : Session → (y : List ℕ) → Session
 into-text s y =
-    record { phase = 1; ad = s .ad; text = s .text; registers = s .registers; h = s .h; pad = s .pad; current = s .current; sum = fresh y }
+    record { phase = 1; ad = s .ad; text = s .text; state = s .state; h = s .h; pad = s .pad; current = s .current; sum = fresh y }
 
 -- ---- bytes of one block
 
@@ -42,7 +43,7 @@ ready s =
       phase = s .phase;
       ad = s .ad;
       text = s .text;
-      registers = pick (eqb (s .text % 16) 0) (step (s .registers)) (s .registers);
+      state = pick (eqb (s .text % 16) 0) (moved forward 1 (s .state)) (s .state);
       h = s .h;
       pad = s .pad;
       current = byte-current s;
@@ -56,7 +57,7 @@ masked s p = xors p (drop (s .text % 16) (s .current))
 -- a session at another length and hash
 abbrev pub counted : Session → ℕ → Sum → Session
 counted s n y =
-    record { phase = s .phase; ad = s .ad; text = n; registers = s .registers; h = s .h; pad = s .pad; current = s .current; sum = y }
+    record { phase = s .phase; ad = s .ad; text = n; state = s .state; h = s .h; pad = s .pad; current = s .current; sum = y }
 
 -- m bytes more are held, which makes them q
 abbrev pub holding : Session → List ℕ → ℕ → Session
@@ -79,7 +80,7 @@ pub record Track : Type 0 where
   pub sum : Sum
 
 abbrev pub trackOf : machine.Track → Track
-trackOf t = record { registers = registersOf (t .state); current = bytesOf (t .z); sum = sumOf (t .held) }
+trackOf t = record { registers = registersOf (t .registers); current = bytesOf (t .z); sum = sumOf (t .held) }
 
 -- n blocks of text under as many of keystream
 abbrev pub under-blocks : Registers → (n : ℕ) → (p : List ℕ) → List ℕ

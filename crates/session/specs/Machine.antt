@@ -2,7 +2,7 @@
 use mathlib.Core.Path.{_≡_}
 use Rattle.words.specs.Machine.{bytesOf}
 use Rattle.ghash.specs.Machine.{bytesOfElement}
-use Rattle.cipher.specs.Machine.{registersOf}
+use Rattle.cipher.specs.Machine.{stateOf}
 use Rattle.digest.specs.Machine.{sumOf}
 use Rattle.session.specs.declared.Session as machine
 use Rattle.session.specs.declared.Said.{Said}
@@ -16,7 +16,7 @@ sessionOf s =
       phase = s .phase;
       ad = s .ad;
       text = s .text;
-      registers = registersOf (s .state);
+      state = stateOf (s .state);
       h = bytesOfElement (s .h);
       pad = bytesOf (s .pad);
       current = bytesOf (s .current);

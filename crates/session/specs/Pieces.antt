@@ -8,7 +8,9 @@ use lib.ListN.{getD, length}
 use Rattle.scope.specs.Refusals.{pick}
 use Rattle.words.specs.Xor.{_⊕_, xors}
 use Rattle.ghash.specs.Hash.{lengths, eat}
-use Rattle.cipher.specs.Step.{z, step}
+use Rattle.cipher.specs.Step.{z}
+use Rattle.cipher.specs.Run.{forward}
+use Rattle.cipher.specs.State.{moved}
 use Rattle.digest.specs.Sum.{fresh}
 use Rattle.digest.specs.Digest.{push, absorb, settled}
 use Rattle.session.specs.Session.{Session}
@@ -21,7 +23,7 @@ data-taken s p =
       phase = 0;
       ad = s .ad + length p;
       text = s .text;
-      registers = s .registers;
+      state = s .state;
       h = s .h;
       pad = s .pad;
       current = s .current;
@@ -38,7 +40,7 @@ closed s =
       phase = 1;
       ad = s .ad;
       text = s .text;
-      registers = s .registers;
+      state = s .state;
       h = s .h;
       pad = s .pad;
       current = s .current;
@@ -48,7 +50,7 @@ closed s =
 
 -- the keystream block for the next byte: one is drawn where the length so far is a multiple of 16, and not before
 unfoldable pub byte-current : Session → List ℕ
-byte-current s = pick (eqb (s .text % 16) 0) (z (s .registers)) (s .current)
+byte-current s = pick (eqb (s .text % 16) 0) (z (s .state .registers)) (s .current)
 
 -- a byte of text sealed
 unfoldable pub byte-out : Session → ℕ → ℕ
@@ -60,7 +62,7 @@ byte-taken s b =
       phase = s .phase;
       ad = s .ad;
       text = s .text + 1;
-      registers = pick (eqb (s .text % 16) 0) (step (s .registers)) (s .registers);
+      state = pick (eqb (s .text % 16) 0) (moved forward 1 (s .state)) (s .state);
       h = s .h;
       pad = s .pad;
       current = byte-current s;

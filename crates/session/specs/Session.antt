@@ -1,7 +1,7 @@
 -- A session (document 01, "Tag arithmetic" and "Sessions and parking"): what is kept between its calls.
-use Prim.Native.Nat.{ℕ, _+_, _/_}
+use Prim.Native.Nat.{ℕ, _+_, _-_, _/_}
 use mathlib.Core.List.{List}
-use Rattle.cipher.specs.Registers.{Registers}
+use Rattle.cipher.specs.State.{State}
 use Rattle.digest.specs.Sum.{Sum}
 
 pub record Session : Type 0 where
@@ -10,7 +10,8 @@ pub record Session : Type 0 where
   -- bytes of associated data and of text so far
   pub ad : ℕ
   pub text : ℕ
-  pub registers : Registers
+  -- the registers, and the count of blocks drawn
+  pub state : State
   -- H, the end pad and the keystream block drawn last
   pub h : List ℕ
   pub pad : List ℕ
@@ -25,3 +26,7 @@ ceil16 n = (n + 15) / 16
 -- blocks drawn at a text length
 abbrev pub drawn-at : ℕ → ℕ
 drawn-at n = 2 + ceil16 n
+
+-- blocks that n bytes of text draw behind t bytes
+abbrev pub drawn-by : (t n : ℕ) → ℕ
+drawn-by t n = ceil16 (t + n) - ceil16 t

@@ -1,7 +1,7 @@
 // A piece of text by blocks: up to the end of the block in use, whole blocks, and the rest.
 ghost use mathlib.Core.Path.{_≡_};
 ghost use mathlib.Core.List.{_++_};
-ghost use Prim.Native.Nat.{_+_, _-_, _*_, _%_, _<_, _≤_};
+ghost use Prim.Native.Nat.{_+_, _-_, _*_, _%_, _^_, _<_, _≤_};
 ghost use lib.ListN.{length, drop};
 ghost use lib.Seq.{sets, slice};
 ghost use Rattle.words.specs.Xor.{xors};
@@ -14,6 +14,7 @@ ghost use Rattle.session.specs.Machine.{sessionOf};
 ghost use Rattle.session.specs.Inner as Inner;
 ghost use Rattle.session.specs.Inner.{ready, masked, trackOf, under-blocks, blocks-taken, Part, Blocks, Lent};
 use crate::Session;
+use cipher::Registers;
 use cipher::State;
 use cipher::lanes;
 use digest::Held;
@@ -22,16 +23,21 @@ use words::Block;
 
 // A block is drawn where the next byte is the first of one, and not before.
 fn drawn(s: Session, rounds: &[u32; 256]) -> Session
-    requires { ⌜ Holds wide (now rounds) ⌝ }
+    requires { ⌜ Holds wide (now rounds) × (s .state .count + 1 < 2 ^ 64) ⌝ }
     ensures { λ r. ⌜ sessionOf r ≡ ready (sessionOf s) ⌝ }
 {
     if s.text % 16 != 0 {
         return s;
     }
     let old = s.state;
-    let w = lanes::forward(old, rounds);
-    let state = w.state;
+    let before = old.registers;
+    let w = lanes::forward(before, rounds);
+    let registers = w.registers;
     let z = w.z;
+    let state = State {
+        registers: registers,
+        count: old.count + 1,
+    };
     let mut r = s;
     r.state = state;
     r.current = z;
@@ -74,7 +80,7 @@ fn hold(
     to: usize,
     rounds: &[u32; 256],
 ) -> Session
-    requires { ⌜ Part (s .text) (length (now piece)) (length (now out)) from to × (s .text % 16 + (to - from) ≤ 16) × Holds wide (now rounds) ⌝ }
+    requires { ⌜ Part (s .text) (length (now piece)) (length (now out)) from to × (s .text % 16 + (to - from) ≤ 16) × Holds wide (now rounds) × (s .state .count + 1 < 2 ^ 64) ⌝ }
     ensures session { λ r. ⌜ sessionOf r ≡ Inner.held (ready (sessionOf s)) (slice from to (now (piece .entry))) ⌝ }
     ensures out { λ _. ⌜ now (out .exit) ≡ sets (now (out .entry)) from (masked (ready (sessionOf s)) (slice from to (now (piece .entry)))) ⌝ }
 {
@@ -104,7 +110,7 @@ fn few(
     to: usize,
     rounds: &[u32; 256],
 ) -> Session
-    requires { ⌜ Part (s .text) (length (now piece)) (length (now out)) from to × (s .text % 16 + (to - from) < 16) × Holds wide (now rounds) ⌝ }
+    requires { ⌜ Part (s .text) (length (now piece)) (length (now out)) from to × (s .text % 16 + (to - from) < 16) × Holds wide (now rounds) × (s .state .count + (to - from) < 2 ^ 64) ⌝ }
     ensures session { λ r. ⌜ sessionOf r ≡ text-taken (sessionOf s) (slice from to (now (piece .entry))) ⌝ }
     ensures out { λ _. ⌜ now (out .exit) ≡ sets (now (out .entry)) from (text-out (sessionOf s) (slice from to (now (piece .entry)))) ⌝ }
 {
@@ -124,7 +130,7 @@ fn full(
     rounds: &[u32; 256],
     table: &[u64; 1024],
 ) -> Session
-    requires { ⌜ Part (s .text) (length (now piece)) (length (now out)) from to × (to - from ≡ (16 - s .text % 16) % 16) × Lent (bytesOfElement (s .h)) (now rounds) (now table) ⌝ }
+    requires { ⌜ Part (s .text) (length (now piece)) (length (now out)) from to × (to - from ≡ (16 - s .text % 16) % 16) × Lent (bytesOfElement (s .h)) (now rounds) (now table) × (s .state .count + (to - from) < 2 ^ 64) ⌝ }
     ensures session { λ r. ⌜ sessionOf r ≡ text-taken (sessionOf s) (slice from to (now (piece .entry))) ⌝ }
     ensures out { λ _. ⌜ now (out .exit) ≡ sets (now (out .entry)) from (text-out (sessionOf s) (slice from to (now (piece .entry)))) ⌝ }
 {
@@ -144,7 +150,7 @@ fn full(
 
 // What whole blocks move on.
 pub struct Track {
-    pub state: State,
+    pub registers: Registers,
     pub z: Block,
     pub held: Held,
 }
@@ -163,9 +169,9 @@ fn sealed_batch(
 ) -> Track
     requires { ⌜ (0 < n) × (n ≤ 16) × (from + 16 * n ≤ length (now piece)) × (from + 16 * n ≤ length (now out)) × Lent (bytesOfElement h) (now rounds) (now table) ⌝ }
     ensures track { λ r. ⌜ trackOf r ≡ blocks-taken (bytesOfElement h) (trackOf t) n (slice from (from + 16 * n) (now (piece .entry))) ⌝ }
-    ensures out { λ _. ⌜ now (out .exit) ≡ sets (now (out .entry)) from (under-blocks (registersOf (t .state)) n (slice from (from + 16 * n) (now (piece .entry)))) ⌝ }
+    ensures out { λ _. ⌜ now (out .exit) ≡ sets (now (out .entry)) from (under-blocks (registersOf (t .registers)) n (slice from (from + 16 * n) (now (piece .entry)))) ⌝ }
 {
-    let s = t.state;
+    let s = t.registers;
     let d = t.held;
     let mut y = d.acc;
     let mut z = t.z;
@@ -198,7 +204,7 @@ fn sealed_batch(
         i += 1;
     }
     Track {
-        state: lanes::moved_to(s, l, &l1, &l2, 16 * n, r3),
+        registers: lanes::moved_to(s, l, &l1, &l2, 16 * n, r3),
         z: z,
         held: digest::fresh(y),
     }
@@ -214,16 +220,17 @@ fn blocks(
     rounds: &[u32; 256],
     table: &[u64; 1024],
 ) -> Session
-    requires { ⌜ Blocks (s .text) (length (now piece)) (length (now out)) from to × Lent (bytesOfElement (s .h)) (now rounds) (now table) ⌝ }
+    requires { ⌜ Blocks (s .text) (length (now piece)) (length (now out)) from to × Lent (bytesOfElement (s .h)) (now rounds) (now table) × (s .state .count + (to - from) < 2 ^ 64) ⌝ }
     ensures session { λ r. ⌜ sessionOf r ≡ text-taken (sessionOf s) (slice from to (now (piece .entry))) ⌝ }
     ensures out { λ _. ⌜ now (out .exit) ≡ sets (now (out .entry)) from (text-out (sessionOf s) (slice from to (now (piece .entry)))) ⌝ }
 {
     let h = s.h;
-    let first = s.state;
+    let began = s.state;
+    let first = began.registers;
     let drawn = s.current;
     let d = s.held;
     let mut t = Track {
-        state: first,
+        registers: first,
         z: drawn,
         held: d,
     };
@@ -234,9 +241,14 @@ fn blocks(
         t = u;
         i += 16 * k;
     }
-    let state = t.state;
+    let registers = t.registers;
     let z = t.z;
     let e = t.held;
+    let old = s.state;
+    let state = State {
+        registers: registers,
+        count: old.count + ((to - from) / 16) as u64,
+    };
     let mut r = s;
     r.text = s.text + ((to - from) as u64);
     r.state = state;
@@ -247,7 +259,7 @@ fn blocks(
 
 // A piece that fills no block.
 pub fn short_text(s: Session, piece: &[u8], out: &mut [u8], rounds: &[u32; 256]) -> Session
-    requires { ⌜ Part (s .text) (length (now piece)) (length (now out)) 0 (length (now piece)) × (s .text % 16 + length (now piece) < 16) × Holds wide (now rounds) ⌝ }
+    requires { ⌜ Part (s .text) (length (now piece)) (length (now out)) 0 (length (now piece)) × (s .text % 16 + length (now piece) < 16) × Holds wide (now rounds) × (s .state .count + length (now piece) < 2 ^ 64) ⌝ }
     ensures session { λ r. ⌜ sessionOf r ≡ text-taken (sessionOf s) (now (piece .entry)) ⌝ }
     ensures out { λ _. ⌜ now (out .exit) ≡ text-out (sessionOf s) (now (piece .entry)) ++ drop (length (now (piece .entry))) (now (out .entry)) ⌝ }
 {
@@ -262,7 +274,7 @@ pub fn long_text(
     rounds: &[u32; 256],
     table: &[u64; 1024],
 ) -> Session
-    requires { ⌜ Part (s .text) (length (now piece)) (length (now out)) 0 (length (now piece)) × (16 ≤ s .text % 16 + length (now piece)) × Lent (bytesOfElement (s .h)) (now rounds) (now table) ⌝ }
+    requires { ⌜ Part (s .text) (length (now piece)) (length (now out)) 0 (length (now piece)) × (16 ≤ s .text % 16 + length (now piece)) × Lent (bytesOfElement (s .h)) (now rounds) (now table) × (s .state .count + length (now piece) < 2 ^ 64) ⌝ }
     ensures session { λ r. ⌜ sessionOf r ≡ text-taken (sessionOf s) (now (piece .entry)) ⌝ }
     ensures out { λ _. ⌜ now (out .exit) ≡ text-out (sessionOf s) (now (piece .entry)) ++ drop (length (now (piece .entry))) (now (out .entry)) ⌝ }
 {

@@ -32,6 +32,7 @@ pub fn begin_with(key: &[u8], iv: &[u8], rounds: &[u32; 256]) -> Said
     let t = start::start_with(key, iv, Mode::Sealed, rounds);
     let answer = t.answer;
     let s = t.state;
+    let registers = s.registers;
     if answer != 0 {
         return Said {
             answer: answer,
@@ -40,7 +41,7 @@ pub fn begin_with(key: &[u8], iv: &[u8], rounds: &[u32; 256]) -> Said
     }
     Said {
         answer: scope::ACCEPTED,
-        session: crate::opened(s, rounds),
+        session: crate::opened(registers, rounds),
     }
 }
 
@@ -79,7 +80,7 @@ pub fn text_with(
     rounds: &[u32; 256],
     table: &[u64; 1024],
 ) -> Session
-    requires { ⌜ Part (s .text) (length (now piece)) (length (now out)) 0 (length (now piece)) × Lent (bytesOfElement (s .h)) (now rounds) (now table) ⌝ }
+    requires { ⌜ Part (s .text) (length (now piece)) (length (now out)) 0 (length (now piece)) × Lent (bytesOfElement (s .h)) (now rounds) (now table) × (s .state .count + length (now piece) < 2 ^ 64) ⌝ }
     ensures session { λ r. ⌜ sessionOf r ≡ text-taken (closed (sessionOf s)) (now (piece .entry)) ⌝ }
     ensures out { λ _. ⌜ now (out .exit) ≡ text-out (closed (sessionOf s)) (now (piece .entry)) ++ drop (length (now (piece .entry))) (now (out .entry)) ⌝ }
 {
@@ -138,18 +139,19 @@ pub fn apply_keystream(s: Session, input: &[u8], out: &mut [u8], rounds: &[u32; 
 {
     let n = input.len();
     let to = n / 16 * 16;
-    let mut state = s.state;
+    let old = s.state;
+    let mut registers = old.registers;
     let mut stream = [0u8; 256];
     let mut i: usize = 0;
     while i < to {
         let k = lanes::at_most((to - i) / 16);
-        let t = lanes::batch(state, rounds, &mut stream, 0, k);
-        state = t;
+        let t = lanes::batch(registers, rounds, &mut stream, 0, k);
+        registers = t;
         under_keystream(input, &stream, out, i, k);
         i += 16 * k;
     }
     if i < n {
-        let w = lanes::forward(state, rounds);
+        let w = lanes::forward(registers, rounds);
         let z = w.z;
         blocks::under(words::to_bytes(z), [0; 16], 0, input, out, i, n);
     }

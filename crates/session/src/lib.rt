@@ -2,13 +2,15 @@
 // blocks in blocks.rt; lent.rt has the calls for whoever makes the tables once for several.
 ghost use mathlib.Core.Path.{_≡_};
 ghost use mathlib.Core.List.{_++_};
-ghost use Prim.Native.Nat.{_+_, _^_, _<_};
+ghost use Prim.Native.Nat.{_+_, _^_, _<_, _≤_};
 ghost use lib.ListN.{length, drop};
+ghost use Rattle.scope.specs.Limits.{most-text};
 ghost use Rattle.aes.specs.Tables.{Holds};
 ghost use Rattle.wide_round.specs.Wide.{wide};
 ghost use Rattle.ghash.specs.Machine.{bytesOfElement};
 ghost use Rattle.cipher.specs.Machine.{registersOf};
 ghost use Rattle.digest.specs.Machine.{sumOf};
+ghost use Rattle.session.specs.Session as definition;
 ghost use Rattle.session.specs.Calls as Calls;
 ghost use Rattle.session.specs.Calls.{begun-from, begin-call, data-call, text-call, finish-call};
 ghost use Rattle.session.specs.Pieces.{closed, tag-of, text-taken, text-out};
@@ -19,6 +21,7 @@ ghost use Rattle.session.specs.Inner.{Part};
 mod blocks;
 pub mod lent;
 
+use cipher::Registers;
 use cipher::State;
 use cipher::lanes;
 use digest::Held;
@@ -71,13 +74,17 @@ pub fn no_session() -> Session
     }
 }
 
-// The session that an accepted begin gives: H and the end pad are drawn.
-fn opened(s: State, rounds: &[u32; 256]) -> Session
+// The session that an accepted begin gives, from the registers of its start: H and the end pad are drawn.
+fn opened(s: Registers, rounds: &[u32; 256]) -> Session
     requires { ⌜ Holds wide (now rounds) ⌝ }
-    ensures { λ r. ⌜ sessionOf r ≡ begun-from (registersOf s) ⌝ }
+    ensures { λ r. ⌜ sessionOf r ≡ begun-from (record { registers = registersOf s; count = 0 }) ⌝ }
 {
     let mut two = [0u8; 32];
-    let state = lanes::batch(s, rounds, &mut two, 0, 2);
+    let registers = lanes::batch(s, rounds, &mut two, 0, 2);
+    let state = State {
+        registers: registers,
+        count: 2,
+    };
     let pad = words::load(&two, 16);
     Session {
         phase: 0,
@@ -167,7 +174,7 @@ fn close(s: Session) -> Session
 
 // An accepted piece of text, with the table of H made where a block is filled. Any, even an empty one, closes the data.
 fn take_text(s: Session, piece: &[u8], out: &mut [u8]) -> Session
-    requires { ⌜ Part (s .text) (length (now piece)) (length (now out)) 0 (length (now piece)) ⌝ }
+    requires { ⌜ Part (s .text) (length (now piece)) (length (now out)) 0 (length (now piece)) × (s .state .count + length (now piece) < 2 ^ 64) ⌝ }
     ensures session { λ r. ⌜ sessionOf r ≡ text-taken (closed (sessionOf s)) (now (piece .entry)) ⌝ }
     ensures out { λ _. ⌜ now (out .exit) ≡ text-out (closed (sessionOf s)) (now (piece .entry)) ++ drop (length (now (piece .entry))) (now (out .entry)) ⌝ }
 {
@@ -182,8 +189,17 @@ fn take_text(s: Session, piece: &[u8], out: &mut [u8]) -> Session
     lent::text_with(s, piece, out, &rounds, &table)
 }
 
+// Blocks that hold n bytes.
+pub fn ceil16(n: u64) -> u64
+    requires { ⌜ n ≤ most-text ⌝ }
+    ensures { λ r. ⌜ r ≡ definition.ceil16 n ⌝ }
+{
+    (n + 15) / 16
+}
+
 // Seals a piece of text into the front of `out`; the first piece closes the data. Refused: 7 after finish, 3 where the text would be over
-// 1,048,576 bytes, 4 where the piece does not fit the output.
+// 1,048,576 bytes, 9 where the state would come past 65,538 blocks, as it does in no session that was begun or resumed, 4 where the piece does not
+// fit the output.
 pub fn text(s: Session, piece: &[u8], out: &mut [u8]) -> Said
     ensures says { λ r. ⌜ Says (text-call (sessionOf s) (now (piece .entry)) (now (out .entry))) r ⌝ }
     ensures out { λ _. ⌜ now (out .exit) ≡ text-call (sessionOf s) (now (piece .entry)) (now (out .entry)) .out ⌝ }
@@ -204,6 +220,14 @@ pub fn text(s: Session, piece: &[u8], out: &mut [u8]) -> Said
     if s.text > scope::MOST_TEXT - n {
         return Said {
             answer: scope::TOO_LONG,
+            session: s,
+        };
+    }
+    let state = s.state;
+    let far = cipher::steps_number(state.count, ceil16(s.text + n) - ceil16(s.text), false);
+    if far != 0 {
+        return Said {
+            answer: far,
             session: s,
         };
     }

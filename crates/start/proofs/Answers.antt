@@ -10,8 +10,8 @@ use lib.ListN.{length, take, drop, length-drop, take-append-drop}
 use lib.Seq.{take-all}
 use Rattle.scope.specs.Limits.{most-blocks}
 use Rattle.scope.specs.Refusals.{pick, refuse}
-use Rattle.cipher.specs.Registers.{Registers}
 use Rattle.cipher.specs.Run.{backward, moves}
+use Rattle.cipher.specs.State.{State}
 use Rattle.start.specs.Start.{start-number}
 use Rattle.start.specs.Leads.{Traced, Traced.refused}
 use Rattle.start.specs.Trace.{loaded, unload, trace}
@@ -76,19 +76,22 @@ walk-first true true later e h = ap refused e
 walk-first true false later e h = absurd (h e)
 walk-first false b later e h = ap refused e
 
-module _ (s : Registers) (key : List ℕ) (n : ℕ) where
-  pub trace-refused : {r : ℕ} → r ≡ walk-number key n → ¬ (r ≡ 0) → refused r ≡ trace s key n
+module _ (s : State) (key : List ℕ) where
+  abbrev n : ℕ
+  n = s .count
+
+  pub trace-refused : {r : ℕ} → r ≡ walk-number key n → ¬ (r ≡ 0) → refused r ≡ trace s key
   unfolding walk-number trace
   trace-refused e h = walk-first (eqb (length key) 32) (ltb most-blocks n) _ e h
 
-  pub trace-bad-key : ¬ (length key ≡ 32) → refused 1 ≡ trace s key n
+  pub trace-bad-key : ¬ (length key ≡ 32) → refused 1 ≡ trace s key
   unfolding trace
   trace-bad-key h = rw (ne-eqb (length key) 32 h)
 
-  pub trace-too-far : length key ≡ 32 → most-blocks < n → refused 9 ≡ trace s key n
+  pub trace-too-far : length key ≡ 32 → most-blocks < n → refused 9 ≡ trace s key
   unfolding trace
   trace-too-far h k = rw (eq-eqb (length key) 32 h, lt-ltb most-blocks n k)
 
-  pub trace-walks : length key ≡ 32 → n ≤ most-blocks → unload key (loaded key (moves backward n s)) ≡ trace s key n
+  pub trace-walks : length key ≡ 32 → n ≤ most-blocks → unload key (loaded key (moves backward n (s .registers))) ≡ trace s key
   unfolding trace
   trace-walks h k = rw (eq-eqb (length key) 32 h, le-ltb most-blocks n k)

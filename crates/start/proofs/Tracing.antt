@@ -14,6 +14,7 @@ use Rattle.scope.specs.Limits.{most-blocks}
 use Rattle.words.specs.Bytes.{Row}
 use Rattle.words.proofs.Rows.{Below}
 use Rattle.cipher.specs.Registers.{Registers, IsRegisters}
+use Rattle.cipher.specs.State.{State}
 use Rattle.cipher.specs.Run.{forward, backward, moves}
 use Rattle.cipher.proofs.Moves.{moves-good, moves-undone}
 use Rattle.start.specs.Start.{Mode, start}
@@ -65,9 +66,15 @@ one-origin key k n s iv iv′ m m′ p q = leads-one key k n p q
 refused-one : (a : Traced) (i j : ℕ) → a ≡ refused i → a ≡ refused j → i ≡ j
 refused-one a i j p q = cc
 
-module _ (s : Registers) (g : IsRegisters s) (key : List ℕ) (n : ℕ) where
+module _ (s : State) (g : IsRegisters (s .registers)) (key : List ℕ) where
+  abbrev n : ℕ
+  n = s .count
+
+  abbrev r : Registers
+  r = s .registers
+
   a : Traced
-  a = trace s key n
+  a = trace s key
 
   module _ {i : ℕ} (e : a ≡ refused i) where
     not-number : (j : ℕ) → ¬ (i ≡ j) → ¬ (a ≡ refused j)
@@ -76,10 +83,10 @@ module _ (s : Registers) (g : IsRegisters s) (key : List ℕ) (n : ℕ) where
     not-found : (iv : List ℕ) (m : Mode) → ¬ (a ≡ origin iv m)
     not-found iv m f = never-both a iv m i f e
 
-  wrong : ¬ (length key ≡ 32) → Traces s key n a
+  wrong : ¬ (length key ≡ 32) → Traces s key a
   unfolding a
   wrong h =
-      let e = sym (trace-bad-key s key n h) in
+      let e = sym (trace-bad-key s key h) in
       record {
         wrong-key = (λ f. h, λ f. e);
         too-far = (λ f. absurd (not-number e 9 (omega arith) f), λ f. absurd (h (f .0)));
@@ -87,10 +94,10 @@ module _ (s : Registers) (g : IsRegisters s) (key : List ℕ) (n : ℕ) where
         none = (λ f. absurd (not-number e 6 (omega arith) f), λ f. absurd (h (f .0 .0)));
       }
 
-  far : length key ≡ 32 → most-blocks < n → Traces s key n a
+  far : length key ≡ 32 → most-blocks < n → Traces s key a
   unfolding a
   far h k =
-      let e = sym (trace-too-far s key n h k) in
+      let e = sym (trace-too-far s key h k) in
       record {
         wrong-key = (λ f. absurd (not-number e 1 (omega arith) f), λ f. absurd (f h));
         too-far = (λ f. (h, k), λ f. e);
@@ -98,29 +105,29 @@ module _ (s : Registers) (g : IsRegisters s) (key : List ℕ) (n : ℕ) where
         none = (λ f. absurd (not-number e 6 (omega arith) f), λ f. absurd (lt-irrefl n (lt-of-le-of-lt (f .0 .1) k)));
       }
 
-  walks : (k : Row 32 256 key) → n ≤ most-blocks → Traces s key n a
+  walks : (k : Row 32 256 key) → n ≤ most-blocks → Traces s key a
   unfolding a walked
   walks k fits =
-      let e : trace s key n ≡ walked key k n s = sym (trace-walks s key n (k .long) fits) in
-      let six : (i : ℕ) → a ≡ refused i → i ≡ 6 = λ i f. refused-six key k (loaded key (moves backward n s)) i (sym e ∙ f) in
+      let e : trace s key ≡ walked key k n r = sym (trace-walks s key (k .long) fits) in
+      let six : (i : ℕ) → a ≡ refused i → i ≡ 6 = λ i f. refused-six key k (loaded key (moves backward n r)) i (sym e ∙ f) in
       record {
         wrong-key = (λ f. absurd (let z = six 1 f in omega arith), λ f. absurd (f (k .long)));
         too-far = (λ f. absurd (let z = six 9 f in omega arith), λ f. absurd (lt-irrefl n (lt-of-le-of-lt fits (f .1))));
-        found = λ iv m. (λ f. ((k .long, fits), walked-leads key k n s g iv m (sym e ∙ f)), λ f. e ∙ leads-walked key k n (f .1));
+        found = λ iv m. (λ f. ((k .long, fits), walked-leads key k n r g iv m (sym e ∙ f)), λ f. e ∙ leads-walked key k n (f .1));
         none = (
           λ f. ((k .long, fits), λ iv m l. never-both a iv m 6 (e ∙ leads-walked key k n l) f),
-          λ f. e ∙ unload-six key k (loaded key (moves backward n s)) (λ iv m h. f .1 iv m (walked-leads key k n s g iv m h)),
+          λ f. e ∙ unload-six key k (loaded key (moves backward n r)) (λ iv m h. f .1 iv m (walked-leads key k n r g iv m h)),
         );
       }
 
   -- of every state and every key
-  pub traces : Below 256 key → Traces s key n (trace s key n)
+  pub traces : Below 256 key → Traces s key (trace s key)
   unfolding a
   traces k = by (eqb (length key) 32) refl
     where
-      count : length key ≡ 32 → Traces s key n (trace s key n)
+      count : length key ≡ 32 → Traces s key (trace s key)
       count h = elim (decLt most-blocks n) [ yes q ↦ far h q | no q ↦ let fits : n ≤ most-blocks = omega arith in walks (record { long = h; below = k }) fits ]
 
-      by : (b : Bool) → eqb (length key) 32 ≡ b → Traces s key n (trace s key n)
+      by : (b : Bool) → eqb (length key) 32 ≡ b → Traces s key (trace s key)
       by true e = count (eqb-true (length key) 32 e)
       by false e = wrong (eqb-false (length key) 32 e)

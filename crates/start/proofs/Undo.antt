@@ -10,7 +10,7 @@ use Rattle.words.proofs.Rows.{row-take, row-drop, row-append, below-test, zeros
 use Rattle.cipher.specs.Registers.{Registers, IsRegisters}
 use Rattle.cipher.specs.Step.{z, step}
 use Rattle.cipher.specs.Back.{back, z-before}
-use Rattle.cipher.specs.declared.State.{State}
+use Rattle.cipher.specs.declared.Registers as machine
 use Rattle.cipher.specs.declared.Before.{Before}
 use Rattle.cipher.specs.Machine.{registersOf}
 use Rattle.cipher.specs.Inner.{Precedes}
@@ -28,7 +28,7 @@ unfolding z-before into-a
 z-before-a s x = refl
 
 -- nor for R1 and R2 before the step
-pub precedes-a : (s t : State) (p : Before) (x : List ℕ) → registersOf t ≡ into-a x (registersOf s) → Precedes s p → Precedes t p
+pub precedes-a : (s t : machine.Registers) (p : Before) (x : List ℕ) → registersOf t ≡ into-a x (registersOf s) → Precedes s p → Precedes t p
 unfolding back z-before into-a
 precedes-a s t p x e h =
     record {

@@ -9,6 +9,7 @@ use Rattle.scope.specs.Refusals.{key-length, count-too-high, no-origin}
 use Rattle.words.specs.Bytes.{IsBlock}
 use Rattle.cipher.specs.Registers.{Registers}
 use Rattle.cipher.specs.Run.{forward, moves}
+use Rattle.cipher.specs.State.{State}
 use Rattle.start.specs.Start.{Mode, start}
 
 -- "A stay number and mode lead to a cipher state, under a key and at a count of blocks drawn, where their start under that key, moved on by that
@@ -22,14 +23,18 @@ pub data Traced : Type 0 where
   origin : (iv : List ℕ) (m : Mode) → Traced
   refused : ℕ → Traced
 
--- a key of 32 bytes, and a count that is not over 65,538: neither 1 nor 9
-abbrev pub Traceable : (key : List ℕ) (n : ℕ) → Type 0
-Traceable key n = (length key ≡ 32) × (n ≤ most-blocks)
+-- a key of 32 bytes, and a state whose count is not over 65,538: neither 1 nor 9
+abbrev pub Traceable : State → (key : List ℕ) → Type 0
+Traceable s key = (length key ≡ 32) × (s .count ≤ most-blocks)
 
--- What trace answers from these registers, in the order 1, 9, 6: "the one stay number and mode that lead to a state, and is refused with 6
+-- an IV and mode lead to a state's registers at its own count
+abbrev pub LeadsToState : (key iv : List ℕ) → Mode → State → Type 0
+LeadsToState key iv m s = LeadsTo key (s .count) iv m (s .registers)
+
+-- What trace answers of a state, whose count it reads there, in the order 1, 9, 6: "the one stay number and mode that lead to a state, and is refused with 6
 -- exactly when none leads there".
-pub record Traces (s : Registers) (key : List ℕ) (n : ℕ) (a : Traced) : Type 0 where
+pub record Traces (s : State) (key : List ℕ) (a : Traced) : Type 0 where
   pub wrong-key : (a ≡ refused key-length) ↔ ¬ (length key ≡ 32)
-  pub too-far : (a ≡ refused count-too-high) ↔ (length key ≡ 32) × (most-blocks < n)
-  pub found : (iv : List ℕ) (m : Mode) → (a ≡ origin iv m) ↔ Traceable key n × LeadsTo key n iv m s
-  pub none : (a ≡ refused no-origin) ↔ Traceable key n × ((iv : List ℕ) (m : Mode) → ¬ LeadsTo key n iv m s)
+  pub too-far : (a ≡ refused count-too-high) ↔ (length key ≡ 32) × (most-blocks < s .count)
+  pub found : (iv : List ℕ) (m : Mode) → (a ≡ origin iv m) ↔ Traceable s key × LeadsToState key iv m s
+  pub none : (a ≡ refused no-origin) ↔ Traceable s key × ((iv : List ℕ) (m : Mode) → ¬ LeadsToState key iv m s)

@@ -11,6 +11,7 @@ use Rattle.words.specs.Bytes.{numbers, zeros}
 use Rattle.cipher.specs.Registers.{Registers}
 use Rattle.cipher.specs.Step.{z, step}
 use Rattle.cipher.specs.Run.{forward, moves}
+use Rattle.cipher.specs.State.{State}
 
 -- the two modes: plain, and the paper's AEAD mode (section 4), which document 01 calls sealed
 pub data Mode : Type 0 where
@@ -58,6 +59,10 @@ initials (suc n) s = initial (initials n s)
 unfoldable pub start : (key iv : List ℕ) → Mode → Registers
 start key iv m = into-r1 (drop 16 key) (initial (into-r1 (take 16 key) (initials 15 (load key iv m))))
 
+-- the state that start gives: no block is drawn yet (document 02, S-2: "0 at the start")
+abbrev pub started : (key iv : List ℕ) → Mode → State
+started key iv m = record { registers = start key iv m; count = 0 }
+
 -- block i of the keystream in sealed mode: what step i + 1 behind the start gives
 abbrev pub sealed-keystream : (key iv : List ℕ) → ℕ → List ℕ
 sealed-keystream key iv i = z (moves forward i (start key iv sealed))
@@ -66,6 +71,6 @@ sealed-keystream key iv i = z (moves forward i (start key iv sealed))
 unfoldable pub start-number : (key iv : List ℕ) → ℕ
 start-number key iv = refuse (not (eqb (length key) 32)) key-length (refuse (not (eqb (length iv) 16)) iv-length 0)
 
--- all registers zero: what a refused start hands out in a state's place
-abbrev pub blank : Registers
-blank = record { lfsr = record { a = replicate 16 0; b = replicate 16 0 }; r1 = zeros; r2 = zeros; r3 = zeros }
+-- all zero: what a refused start hands out in a state's place
+abbrev pub blank : State
+blank = record { registers = record { lfsr = record { a = replicate 16 0; b = replicate 16 0 }; r1 = zeros; r2 = zeros; r3 = zeros }; count = 0 }

@@ -12,6 +12,7 @@ use Rattle.words.specs.Bytes.{littles, same, zeros}
 use Rattle.cipher.specs.Registers.{Registers}
 use Rattle.cipher.specs.Back.{back, z-before}
 use Rattle.cipher.specs.Run.{backward, moves}
+use Rattle.cipher.specs.State.{State}
 use Rattle.start.specs.Start.{Mode, Mode.plain, Mode.sealed, mode-cells, into-a, into-r1}
 use Rattle.start.specs.Leads.{Traced, Traced.origin, Traced.refused}
 
@@ -41,8 +42,8 @@ unload key s =
     (pick (loads key sealed s) (origin (littles 2 (take 8 (s .lfsr .a))) sealed) (refused no-origin))
 
 -- 1, 9, 6
-unfoldable pub trace : Registers → (key : List ℕ) → (count : ℕ) → Traced
-trace s key n =
+unfoldable pub trace : State → (key : List ℕ) → Traced
+trace s key =
     pick (not (eqb (length key) 32))
     (refused key-length)
-    (pick (ltb most-blocks n) (refused count-too-high) (unload key (loaded key (moves backward n s))))
+    (pick (ltb most-blocks (s .count)) (refused count-too-high) (unload key (loaded key (moves backward (s .count) (s .registers)))))

@@ -9,7 +9,7 @@ ghost use Rattle.aes.specs.Tables.{Holds};
 ghost use Rattle.wide_round.specs.Wide.{wide};
 ghost use Rattle.lfsr.specs.Machine.{lfsrOf};
 ghost use Rattle.cipher.specs.Run.{backward, moves};
-ghost use Rattle.cipher.specs.Machine.{registersOf};
+ghost use Rattle.cipher.specs.Machine.{registersOf, stateOf};
 ghost use Rattle.start.specs.Start;
 ghost use Rattle.start.specs.Start.{blank, mode-cells, start-number};
 ghost use Rattle.start.specs.Leads;
@@ -18,6 +18,7 @@ ghost use Rattle.start.specs.Trace;
 ghost use Rattle.start.specs.Machine.{modeOf, Starts, tracedOf};
 ghost use Rattle.start.specs.Inner;
 ghost use Rattle.start.specs.Inner.{walk-number};
+use cipher::Registers;
 use cipher::State;
 use cipher::lanes;
 use lfsr::Lfsr;
@@ -68,14 +69,14 @@ fn mode_block(mode: Mode) -> Block
 }
 
 // The registers loaded with the two halves of the key and the IV.
-pub fn load(low: Block, high: Block, iv: Block, mode: Mode) -> State
+pub fn load(low: Block, high: Block, iv: Block, mode: Mode) -> Registers
     ensures { λ r. ⌜ registersOf r ≡ Start.load (bytesOf low ++ bytesOf high) (bytesOf iv) (modeOf mode) ⌝ }
 {
     let a = cells(iv, low);
     let b = cells(mode_block(mode), high);
     let l = Lfsr { a: a, b: b };
     let zero = words::zero();
-    State {
+    Registers {
         lfsr: l,
         r1: zero,
         r2: zero,
@@ -93,8 +94,8 @@ fn fed(l: Lfsr, x: Block) -> Lfsr
     Lfsr { a: n, b: b }
 }
 
-// The same of a state.
-fn into_a(s: State, x: Block) -> State
+// The same of registers.
+fn into_a(s: Registers, x: Block) -> Registers
     ensures { λ r. ⌜ registersOf r ≡ Start.into-a (bytesOf x) (registersOf s) ⌝ }
 {
     let l = s.lfsr;
@@ -105,7 +106,7 @@ fn into_a(s: State, x: Block) -> State
 }
 
 // A block xored into R1.
-pub fn into_r1(s: State, x: Block) -> State
+pub fn into_r1(s: Registers, x: Block) -> Registers
     ensures { λ r. ⌜ registersOf r ≡ Start.into-r1 (bytesOf x) (registersOf s) ⌝ }
 {
     let r1 = s.r1;
@@ -116,7 +117,7 @@ pub fn into_r1(s: State, x: Block) -> State
 }
 
 // At most 16 steps of a start, R1 and R2 in lanes as in `lanes::batch`. Register A takes every z in, so that A and B go step by step too.
-pub fn initials(s: State, n: usize, rounds: &[u32; 256]) -> State
+pub fn initials(s: Registers, n: usize, rounds: &[u32; 256]) -> Registers
     requires { ⌜ (n ≤ 16) × Holds wide (now rounds) ⌝ }
     ensures { λ r. ⌜ registersOf r ≡ Start.initials n (registersOf s) ⌝ }
 {
@@ -154,7 +155,7 @@ pub struct Started {
     pub state: State,
 }
 
-fn sixteen_steps(low: Block, high: Block, iv: Block, mode: Mode, rounds: &[u32; 256]) -> State
+fn sixteen_steps(low: Block, high: Block, iv: Block, mode: Mode, rounds: &[u32; 256]) -> Registers
     requires { ⌜ Holds wide (now rounds) ⌝ }
     ensures { λ r. ⌜ registersOf r ≡ Start.start (bytesOf low ++ bytesOf high) (bytesOf iv) (modeOf mode) ⌝ }
 {
@@ -165,18 +166,22 @@ fn sixteen_steps(low: Block, high: Block, iv: Block, mode: Mode, rounds: &[u32; 
 
 // The all-zero state, which a refused start hands out.
 pub fn blank_state() -> State
-    ensures { λ r. ⌜ registersOf r ≡ blank ⌝ }
+    ensures { λ r. ⌜ stateOf r ≡ blank ⌝ }
 {
     let l = Lfsr {
         a: [0; 16],
         b: [0; 16],
     };
     let zero = words::zero();
-    State {
+    let registers = Registers {
         lfsr: l,
         r1: zero,
         r2: zero,
         r3: zero,
+    };
+    State {
+        registers: registers,
+        count: 0,
     }
 }
 
@@ -205,15 +210,20 @@ pub fn start_with(key: &[u8], iv: &[u8], mode: Mode, rounds: &[u32; 256]) -> Sta
             state: blank_state(),
         };
     }
+    let registers = sixteen_steps(
+        words::load(key, 0),
+        words::load(key, 16),
+        words::load(iv, 0),
+        mode,
+        rounds,
+    );
+    let state = State {
+        registers: registers,
+        count: 0,
+    };
     Started {
         answer: scope::ACCEPTED,
-        state: sixteen_steps(
-            words::load(key, 0),
-            words::load(key, 16),
-            words::load(iv, 0),
-            mode,
-            rounds,
-        ),
+        state: state,
     }
 }
 
@@ -226,16 +236,16 @@ pub fn start(key: &[u8], iv: &[u8], mode: Mode) -> Started
 }
 
 // One of the 16 steps of a start, undone.
-fn uninitial(s: State, inverse: &[u8; 256]) -> State
+fn uninitial(s: Registers, inverse: &[u8; 256]) -> Registers
     requires { ⌜ Holds unsub (now inverse) ⌝ }
     ensures { λ r. ⌜ registersOf r ≡ Trace.uninitial (registersOf s) ⌝ }
 {
     let p = cipher::z_before(s, inverse);
     let z = p.z;
-    cipher::state_before(into_a(s, z), p)
+    cipher::registers_before(into_a(s, z), p)
 }
 
-fn uninitials(s: State, n: usize, inverse: &[u8; 256]) -> State
+fn uninitials(s: Registers, n: usize, inverse: &[u8; 256]) -> Registers
     requires { ⌜ Holds unsub (now inverse) ⌝ }
     ensures { λ r. ⌜ registersOf r ≡ Trace.uninitials n (registersOf s) ⌝ }
 {
@@ -249,7 +259,7 @@ fn uninitials(s: State, n: usize, inverse: &[u8; 256]) -> State
     t
 }
 
-fn walked_back(s: State, n: u64, inverse: &[u8; 256]) -> State
+fn walked_back(s: Registers, n: u64, inverse: &[u8; 256]) -> Registers
     requires { ⌜ Holds unsub (now inverse) ⌝ }
     ensures { λ r. ⌜ registersOf r ≡ moves backward n (registersOf s) ⌝ }
 {
@@ -257,7 +267,7 @@ fn walked_back(s: State, n: u64, inverse: &[u8; 256]) -> State
     let mut i: u64 = 0;
     while i < n {
         let w = cipher::backward(t, inverse);
-        let u = w.state;
+        let u = w.registers;
         t = u;
         i += 1;
     }
@@ -265,7 +275,7 @@ fn walked_back(s: State, n: u64, inverse: &[u8; 256]) -> State
 }
 
 // What a start under this key would have loaded.
-fn loaded(s: State, low: Block, high: Block, inverse: &[u8; 256]) -> State
+fn loaded(s: Registers, low: Block, high: Block, inverse: &[u8; 256]) -> Registers
     requires { ⌜ Holds unsub (now inverse) ⌝ }
     ensures { λ r. ⌜ registersOf r ≡ Trace.loaded (bytesOf low ++ bytesOf high) (registersOf s) ⌝ }
 {
@@ -274,7 +284,7 @@ fn loaded(s: State, low: Block, high: Block, inverse: &[u8; 256]) -> State
 }
 
 // Whether a start in this mode under this key loads the state, with some IV.
-fn loads(s: State, low: Block, high: Block, mode: Mode) -> bool
+fn loads(s: Registers, low: Block, high: Block, mode: Mode) -> bool
     ensures { λ r. ⌜ r ≡ Trace.loads (bytesOf low ++ bytesOf high) (modeOf mode) (registersOf s) ⌝ }
 {
     let l = s.lfsr;
@@ -314,7 +324,7 @@ fn found(iv: Block, mode: Mode) -> Traced
     })
 }
 
-fn unload(s: State, low: Block, high: Block) -> Traced
+fn unload(s: Registers, low: Block, high: Block) -> Traced
     ensures { λ r. ⌜ tracedOf r ≡ Trace.unload (bytesOf low ++ bytesOf high) (registersOf s) ⌝ }
 {
     let l = s.lfsr;
@@ -343,27 +353,28 @@ fn walk_number(key: &[u8], count: u64) -> u64
 }
 
 // As `trace`, with the inverse S-box lent.
-pub fn trace_with(s: State, key: &[u8], count: u64, inverse: &[u8; 256]) -> Traced
+pub fn trace_with(s: State, key: &[u8], inverse: &[u8; 256]) -> Traced
     requires { ⌜ Holds unsub (now inverse) ⌝ }
-    ensures leads { λ r. ⌜ Traces (registersOf s) (now (key .entry)) count (tracedOf r) ⌝ }
-    ensures walk { λ r. ⌜ tracedOf r ≡ Trace.trace (registersOf s) (now (key .entry)) count ⌝ }
+    ensures leads { λ r. ⌜ Traces (stateOf s) (now (key .entry)) (tracedOf r) ⌝ }
+    ensures walk { λ r. ⌜ tracedOf r ≡ Trace.trace (stateOf s) (now (key .entry)) ⌝ }
 {
-    let n = walk_number(key, count);
+    let n = walk_number(key, s.count);
     if n != 0 {
         return Traced::Refused(n);
     }
     let low = words::load(key, 0);
     let high = words::load(key, 16);
-    let t = walked_back(s, count, inverse);
+    let registers = s.registers;
+    let t = walked_back(registers, s.count, inverse);
     unload(loaded(t, low, high, inverse), low, high)
 }
 
-// Document 01's trace: the IV and mode that lead to a state under a key at a count of blocks drawn. Refused: 1 for the key's length, 9 for
-// the count, 6 where no IV and mode lead there.
-pub fn trace(s: State, key: &[u8], count: u64) -> Traced
-    ensures leads { λ r. ⌜ Traces (registersOf s) (now (key .entry)) count (tracedOf r) ⌝ }
-    ensures walk { λ r. ⌜ tracedOf r ≡ Trace.trace (registersOf s) (now (key .entry)) count ⌝ }
+// Document 01's trace: the IV and mode that lead to a state under a key, at the count that it carries. Refused: 1 for the key's length, 9 for a count
+// over 65,538, 6 where no IV and mode lead there.
+pub fn trace(s: State, key: &[u8]) -> Traced
+    ensures leads { λ r. ⌜ Traces (stateOf s) (now (key .entry)) (tracedOf r) ⌝ }
+    ensures walk { λ r. ⌜ tracedOf r ≡ Trace.trace (stateOf s) (now (key .entry)) ⌝ }
 {
     let inverse = aes::inverse_sbox();
-    trace_with(s, key, count, &inverse)
+    trace_with(s, key, &inverse)
 }

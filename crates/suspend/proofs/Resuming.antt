@@ -24,7 +24,7 @@ use Rattle.layout.specs.Block.{read}
 use Rattle.layout.specs.Rules.{well-laid}
 use Rattle.layout.proofs.Obeying.{laid-text}
 use Rattle.layout.proofs.Taken.{read-fine}
-use Rattle.suspend.specs.Calls.{not-resumed, revived, LeadsToBlock, Revives}
+use Rattle.suspend.specs.Calls.{state-of, not-resumed, revived, LeadsToBlock, Revives}
 use Rattle.suspend.specs.Walk.{by-origin, resume-call}
 
 -- the z of the step before is the block drawn last
@@ -73,7 +73,7 @@ module _ (key b : List ℕ) where
     -- ---- the trace decides
 
     module _ (w : well-laid b ≡ true) {a : Traced} where
-      module _ (t : a ≡ trace (read b .registers) key (drawn-at (read b .text))) where
+      module _ (t : a ≡ trace (state-of (read b)) key) where
         resume-traced : by-origin key (read b) a ≡ resume-call key b
         unfolding resume-call
         resume-traced = rw (eq-eqb (length key) 32 h, w, ← t)
@@ -90,8 +90,8 @@ module _ (key b : List ℕ) where
         unfolding by-origin
         resume-sealed iv e = sym (ap (by-origin key (read b)) e) ∙ resume-traced
 
-      module _ (t : Traces (read b .registers) key (drawn-at (read b .text)) a) where
-        fits : Traceable key (drawn-at (read b .text))
+      module _ (t : Traces (state-of (read b)) key a) where
+        fits : Traceable (state-of (read b)) key
         fits = (h, omega (arith, laid-text b w))
 
         traced : (iv : List ℕ) → LeadsToBlock key b iv → a ≡ origin iv sealed
@@ -133,16 +133,16 @@ module _ (key b : List ℕ) where
   pub revives : Below 256 key → Below 256 b → Revives key b (resume-call key b)
   revives kb bb = by (eqb (length key) 32) refl (well-laid b) refl
     where
-      found : (h : length key ≡ 32) (w : well-laid b ≡ true) (a : Traced) → a ≡ trace (read b .registers) key (drawn-at (read b .text))
+      found : (h : length key ≡ 32) (w : well-laid b ≡ true) (a : Traced) → a ≡ trace (state-of (read b)) key
           → Revives key b (resume-call key b)
       found h w (origin iv plain) e =
-          subst (Revives key b) (resume-plain h w e iv refl) (revives-plain h w (rw e (traces (read b .registers) (read-fine b bb w .registers-good) key _ kb)) iv refl)
+          subst (Revives key b) (resume-plain h w e iv refl) (revives-plain h w (rw e (traces (state-of (read b)) (read-fine b bb w .registers-good) key kb)) iv refl)
       found h w (origin iv sealed) e =
-          subst (Revives key b) (resume-sealed h w e iv refl) (revives-sealed h w (rw e (traces (read b .registers) (read-fine b bb w .registers-good) key _ kb)) iv refl)
+          subst (Revives key b) (resume-sealed h w e iv refl) (revives-sealed h w (rw e (traces (state-of (read b)) (read-fine b bb w .registers-good) key kb)) iv refl)
       found h w (refused n) e =
-          subst (Revives key b) (resume-refused h w e n refl) (revives-refused h w (rw e (traces (read b .registers) (read-fine b bb w .registers-good) key _ kb)) n refl)
+          subst (Revives key b) (resume-refused h w e n refl) (revives-refused h w (rw e (traces (state-of (read b)) (read-fine b bb w .registers-good) key kb)) n refl)
 
       by : (i : Bool) → eqb (length key) 32 ≡ i → (j : Bool) → well-laid b ≡ j → Revives key b (resume-call key b)
       by false p j q = let h = eqb-false (length key) 32 p in subst (Revives key b) (resume-bad-key h) (revives-bad-key h)
       by true p false q = let h = eqb-true (length key) 32 p in subst (Revives key b) (resume-bad-block h q) (revives-bad-block h q)
-      by true p true q = found (eqb-true (length key) 32 p) q (trace (read b .registers) key (drawn-at (read b .text))) refl
+      by true p true q = found (eqb-true (length key) 32 p) q (trace (state-of (read b)) key) refl

@@ -3,6 +3,7 @@
 use mathlib.Core.Path.{_≡_, refl, sym, ap, _∙_}
 use mathlib.Core.List.{List, _++_}
 use Prim.Native.Nat.{ℕ, _+_, _≤_}
+use native.Mathlib.Nat.{zero-add}
 use native.Mathlib.Omega.{arith}
 use borrow.Author.Tests.{eq-eqb, le-ltb, lt-ltb}
 use lib.ListN.{length, take, drop, length-drop}
@@ -11,7 +12,8 @@ use Rattle.scope.specs.Refusals.{granted}
 use Rattle.words.specs.Bytes.{Row, IsBlock, part}
 use Rattle.cipher.specs.Step.{z}
 use Rattle.cipher.specs.Run.{forward, moves}
-use Rattle.start.specs.Start.{Mode.sealed, start}
+use Rattle.cipher.specs.State.{State, moved}
+use Rattle.start.specs.Start.{Mode.sealed, start, started}
 use Rattle.start.specs.Leads.{Traced.origin}
 use Rattle.start.specs.Trace.{trace}
 use Rattle.start.proofs.Tracing.{traces}
@@ -19,13 +21,13 @@ use Rattle.session.specs.Session.{Session, ceil16, drawn-at}
 use Rattle.layout.specs.Block.{registers-at, block-of}
 use Rattle.layout.specs.Laws.{Fine}
 use Rattle.layout.proofs.Written.{block-row, block-laid, registers-block, read-block}
-use Rattle.suspend.specs.Calls.{suspended-of, suspend-number, suspend-call, revived}
+use Rattle.suspend.specs.Calls.{suspended-of, state-of, suspend-number, suspend-call, revived}
 use Rattle.suspend.specs.Walk.{by-origin, resume-call}
 
 -- what a session is where key and IV lead, at the blocks that its text has drawn
 pub record Led (key iv : List ℕ) (s : Session) : Type 0 where
   pub fine : Fine (suspended-of s)
-  pub registers-led : s .registers ≡ moves forward (drawn-at (s .text)) (start key iv sealed)
+  pub state-led : s .state ≡ moved forward (drawn-at (s .text)) (started key iv sealed)
   pub h-led : s .h ≡ z (start key iv sealed)
   pub pad-led : s .pad ≡ z (moves forward 1 (start key iv sealed))
   pub current-led : s .current ≡ z (moves forward (1 + ceil16 (s .text)) (start key iv sealed))
@@ -49,7 +51,7 @@ module _ (s : Session) (f : Fine (suspended-of s)) where
     suspend-block = ap (take 512) writes ∙ take-at (block-of (suspended-of s)) (drop 512 out) 512 (block-row (suspended-of s) f .long)
 
     -- bytes 16 to 127 list the session's registers
-    pub suspend-registers : registers-at (part 16 112 (suspend-call s out .out)) ≡ s .registers
+    pub suspend-registers : registers-at (part 16 112 (suspend-call s out .out)) ≡ s .state .registers
     suspend-registers =
         let b : List ℕ = block-of (suspended-of s) in
         let long : length b ≡ 512 = block-row (suspended-of s) f .long in
@@ -59,10 +61,16 @@ module _ (s : Session) (f : Fine (suspended-of s)) where
         ∙ registers-block (suspended-of s) f
 
 module _ (key iv : List ℕ) (k : Row 32 256 key) (v : IsBlock iv) (s : Session) (l : Led key iv s) where
-  traced : trace (s .registers) key (drawn-at (s .text)) ≡ origin iv sealed
+  -- the count that the block says is the session's own
+  same-state : state-of (suspended-of s) ≡ s .state
+  same-state =
+      let e : drawn-at (s .text) ≡ s .state .count = sym (ap (λ (t : State). t .count) (l .state-led) ∙ zero-add (drawn-at (s .text))) in
+      λ i. record { registers = s .state .registers; count = e i }
+
+  traced : trace (state-of (suspended-of s)) key ≡ origin iv sealed
   traced =
-      traces (s .registers) (l .fine .registers-good) key (drawn-at (s .text)) (k .below)
-      .found iv sealed .1 ((k .long, omega (arith, l .fine .text-fits)), record { iv-block = v; arrives = sym (l .registers-led) })
+      traces (state-of (suspended-of s)) (l .fine .registers-good) key (k .below)
+      .found iv sealed .1 ((k .long, omega (arith, l .fine .text-fits)), record { iv-block = v; arrives = sym (ap (λ (t : State). t .registers) (l .state-led)) })
 
   revived-same : revived key iv (suspended-of s) ≡ s
   unfolding revived moves
@@ -71,7 +79,7 @@ module _ (key iv : List ℕ) (k : Row 32 256 key) (v : IsBlock iv) (s : Session)
         phase = s .phase;
         ad = s .ad;
         text = s .text;
-        registers = s .registers;
+        state = same-state i;
         h = sym (l .h-led) i;
         pad = sym (l .pad-led) i;
         current = sym (l .current-led) i;

@@ -9,8 +9,9 @@ use lib.Dec.{ltb}
 use lib.ListN.{length, drop}
 use Rattle.scope.specs.Refusals.{refuse, granted, key-length, short-output, no-origin, out-of-phase, bad-block}
 use Rattle.words.specs.Bytes.{zeros}
+use Rattle.cipher.specs.State.{State}
 use Rattle.start.specs.Start.{Mode.sealed, sealed-keystream}
-use Rattle.start.specs.Leads.{LeadsTo}
+use Rattle.start.specs.Leads.{LeadsToState}
 use Rattle.session.specs.Session.{Session, ceil16, drawn-at}
 use Rattle.session.specs.Calls.{Given, no-session}
 use Rattle.layout.specs.Block.{Suspended, block-of, read}
@@ -18,7 +19,11 @@ use Rattle.layout.specs.Rules.{well-laid}
 
 -- what a block says of a session
 abbrev pub suspended-of : Session → Suspended
-suspended-of s = record { phase = s .phase; ad = s .ad; text = s .text; registers = s .registers; sum = s .sum }
+suspended-of s = record { phase = s .phase; ad = s .ad; text = s .text; registers = s .state .registers; sum = s .sum }
+
+-- the state of what a block says: its registers, and the count, which is not in the block, since it follows from the text's length
+abbrev pub state-of : Suspended → State
+state-of k = record { registers = k .registers; count = drawn-at (k .text) }
 
 -- ---- suspend: 7, 4
 
@@ -53,7 +58,7 @@ revived key iv k =
       phase = k .phase;
       ad = k .ad;
       text = k .text;
-      registers = k .registers;
+      state = state-of k;
       h = sealed-keystream key iv 0;
       pad = sealed-keystream key iv 1;
       current = sealed-keystream key iv (1 + ceil16 (k .text));
@@ -64,9 +69,9 @@ revived key iv k =
 abbrev pub Resumable : (key block : List ℕ) → Type 0
 Resumable key b = (length key ≡ 32) × (well-laid b ≡ true)
 
--- an IV leads to the block's registers in sealed mode, at the blocks that its text has drawn
+-- an IV leads to the block's state in sealed mode: to its registers, at the blocks that its text has drawn
 abbrev pub LeadsToBlock : (key block iv : List ℕ) → Type 0
-LeadsToBlock key b iv = LeadsTo key (drawn-at (read b .text)) iv sealed (read b .registers)
+LeadsToBlock key b iv = LeadsToState key iv sealed (state-of (read b))
 
 -- 1, 8, 6: 0 with an IV exactly if it leads there, 6 exactly if none does, "a plain-mode state" included
 pub record Revives (key block : List ℕ) (r : Resumed) : Type 0 where

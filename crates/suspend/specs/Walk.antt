@@ -10,10 +10,9 @@ use Rattle.scope.specs.Refusals.{pick, key-length, no-origin, bad-block}
 use Rattle.start.specs.Start.{Mode.plain, Mode.sealed}
 use Rattle.start.specs.Leads.{Traced, Traced.origin, Traced.refused}
 use Rattle.start.specs.Trace.{trace}
-use Rattle.session.specs.Session.{drawn-at}
 use Rattle.layout.specs.Block.{Suspended, read}
 use Rattle.layout.specs.Rules.{well-laid}
-use Rattle.suspend.specs.Calls.{Resumed, not-resumed, revived}
+use Rattle.suspend.specs.Calls.{state-of, Resumed, not-resumed, revived}
 
 -- 6: no IV leads to the registers in sealed mode
 unfoldable pub by-origin : (key : List ℕ) → Suspended → Traced → Resumed
@@ -25,4 +24,4 @@ unfoldable pub resume-call : (key block : List ℕ) → Resumed
 resume-call key b =
     pick (not (eqb (length key) 32))
     (not-resumed key-length)
-    (pick (not (well-laid b)) (not-resumed bad-block) (by-origin key (read b) (trace (read b .registers) key (drawn-at (read b .text)))))
+    (pick (not (well-laid b)) (not-resumed bad-block) (by-origin key (read b) (trace (state-of (read b)) key)))

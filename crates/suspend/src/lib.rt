@@ -7,16 +7,16 @@ ghost use Rattle.scope.specs.Limits.{most-text};
 ghost use Rattle.words.specs.Bytes.{little};
 ghost use Rattle.aes.specs.Unround.{unsub};
 ghost use Rattle.aes.specs.Tables.{Holds};
-ghost use Rattle.cipher.specs.Machine.{registersOf};
+ghost use Rattle.cipher.specs.Machine.{stateOf};
 ghost use Rattle.start.specs.Start.{Mode.sealed};
-ghost use Rattle.start.specs.Leads.{LeadsTo};
-ghost use Rattle.session.specs.Session.{drawn-at};
+ghost use Rattle.start.specs.Leads.{LeadsToState};
 ghost use Rattle.session.specs.Machine.{sessionOf, Says};
 ghost use Rattle.suspended.specs.Machine.{suspendedOf};
 ghost use Rattle.suspend.specs.Calls;
 ghost use Rattle.suspend.specs.Calls.{suspend-call, not-resumed, Revives};
 ghost use Rattle.suspend.specs.Walk.{resume-call};
 ghost use Rattle.suspend.specs.Machine.{resumedOf};
+use cipher::State;
 use session::Said;
 use session::Session;
 use start::Mode;
@@ -42,12 +42,13 @@ pub fn suspend(s: Session, out: &mut [u8]) -> Said
         };
     }
     let state = s.state;
+    let registers = state.registers;
     let held = s.held;
     let block = suspended::block_of(Suspended {
         phase: s.phase,
         ad: s.ad,
         text: s.text,
-        state: state,
+        registers: registers,
         held: held,
     });
     fields::copy(&block, 512, out);
@@ -85,19 +86,31 @@ pub fn iv_bytes(lo: u64, hi: u64) -> [u8; 16]
     r
 }
 
+// The state that a block says: its registers, and the count of blocks that its text has drawn.
+pub fn state_of(k: Suspended) -> State
+    requires { ⌜ k .text ≤ most-text ⌝ }
+    ensures { λ r. ⌜ stateOf r ≡ Calls.state-of (suspendedOf k) ⌝ }
+{
+    let registers = k.registers;
+    State {
+        registers: registers,
+        count: 2 + session::ceil16(k.text),
+    }
+}
+
 // The session of what a block says, under the IV that leads to its state: H and the end pad are those of a session begun under it, and the current
 // block is that of the step before.
-fn revived(key: &[u8], iv: [u8; 16], k: Suspended, inverse: &[u8; 256]) -> Session
-    requires { ⌜ (length (now key) ≡ 32) × LeadsTo (now key) (drawn-at (k .text)) iv sealed (registersOf (k .state)) × Holds unsub (now inverse) ⌝ }
+fn revived(key: &[u8], iv: [u8; 16], k: Suspended, state: State, inverse: &[u8; 256]) -> Session
+    requires { ⌜ (length (now key) ≡ 32) × (stateOf state ≡ Calls.state-of (suspendedOf k)) × LeadsToState (now key) iv sealed (stateOf state) × Holds unsub (now inverse) ⌝ }
     ensures { λ r. ⌜ sessionOf r ≡ Calls.revived (now (key .entry)) iv (suspendedOf k) ⌝ }
 {
-    let state = k.state;
     let held = k.held;
     let begun = session::begin(key, &iv);
     let first = begun.session;
     let h = first.h;
     let pad = first.pad;
-    let before = cipher::z_before(state, inverse);
+    let registers = state.registers;
+    let before = cipher::z_before(registers, inverse);
     let current = before.z;
     Session {
         phase: k.phase,
@@ -109,14 +122,6 @@ fn revived(key: &[u8], iv: [u8; 16], k: Suspended, inverse: &[u8; 256]) -> Sessi
         current: current,
         held: held,
     }
-}
-
-// Blocks drawn at a text length.
-fn drawn(text: u64) -> u64
-    requires { ⌜ text ≤ most-text ⌝ }
-    ensures { λ r. ⌜ r ≡ drawn-at text ⌝ }
-{
-    2 + (text + 15) / 16
 }
 
 // Document 01's take up: the session that a block was written for, and its IV. Refused: 1 for the key's length, 8 for a block that breaks a
@@ -132,9 +137,9 @@ pub fn resume(key: &[u8], block: &[u8]) -> Resumed
         return refused(scope::BAD_BLOCK);
     }
     let k = suspended::read(block);
-    let state = k.state;
+    let state = state_of(k);
     let inverse = aes::inverse_sbox();
-    let Traced::Found(o) = start::trace_with(state, key, drawn(k.text), &inverse) else {
+    let Traced::Found(o) = start::trace_with(state, key, &inverse) else {
         return refused(scope::NO_ORIGIN);
     };
     let mode = o.mode;
@@ -142,7 +147,7 @@ pub fn resume(key: &[u8], block: &[u8]) -> Resumed
         Mode::Plain => refused(scope::NO_ORIGIN),
         Mode::Sealed => {
             let iv = iv_bytes(o.lo, o.hi);
-            let session = revived(key, iv, k, &inverse);
+            let session = revived(key, iv, k, state, &inverse);
             Resumed {
                 answer: scope::ACCEPTED,
                 iv: iv,

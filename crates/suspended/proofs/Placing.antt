@@ -15,7 +15,7 @@ use Rattle.words.proofs.Bytes.{littles-append}
 use Rattle.words.proofs.Blocks.{bytesOf-block}
 use Rattle.words.proofs.Parts.{part-part}
 use Rattle.words.proofs.Writing.{put-next}
-use Rattle.cipher.specs.declared.State.{State}
+use Rattle.cipher.specs.declared.Registers as machine
 use Rattle.cipher.specs.Registers.{Registers}
 use Rattle.cipher.specs.Machine.{registersOf}
 use Rattle.layout.specs.Block.{registers-bytes, registers-at}
@@ -33,9 +33,9 @@ put-halves l x y out at p q e f =
     ∙ ap (sets out at) (ap₂ (λ (a b : List ℕ). a ++ b) p q ∙ sym (littles-append 2 (take 8 l) (drop 8 l)) ∙ ap (littles 2) (take-append-drop 8 l))
 
 -- what the type of the code's state says of its cells
-module _ (s : State) (na : length (s .lfsr .a) ≡ 16) (nb : length (s .lfsr .b) ≡ 16) where
-  pub state-long : length (registers-bytes (registersOf s)) ≡ 112
-  state-long = registers-row (registersOf s) na nb (bytesOf-block (s .r1)) (bytesOf-block (s .r2)) (bytesOf-block (s .r3)) .long
+module _ (s : machine.Registers) (na : length (s .lfsr .a) ≡ 16) (nb : length (s .lfsr .b) ≡ 16) where
+  pub registers-long : length (registers-bytes (registersOf s)) ≡ 112
+  registers-long = registers-row (registersOf s) na nb (bytesOf-block (s .r1)) (bytesOf-block (s .r2)) (bytesOf-block (s .r3)) .long
 
   pub put-registers : (out : List ℕ) (at : ℕ) {o1 o2 o3 o4 o5 : List ℕ} → o1 ≡ sets out at (littles 2 (s .lfsr .a))
       → o2 ≡ sets o1 (at + 32) (littles 2 (s .lfsr .b)) → o3 ≡ sets o2 (at + 64) (bytesOf (s .r1)) → o4 ≡ sets o3 (at + 80) (bytesOf (s .r2))

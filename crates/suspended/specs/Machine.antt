@@ -5,4 +5,4 @@ use Rattle.suspended.specs.declared.Suspended as machine
 use Rattle.layout.specs.Block.{Suspended}
 
 abbrev pub suspendedOf : machine.Suspended → Suspended
-suspendedOf f = record { phase = f .phase; ad = f .ad; text = f .text; registers = registersOf (f .state); sum = sumOf (f .held) }
+suspendedOf f = record { phase = f .phase; ad = f .ad; text = f .text; registers = registersOf (f .registers); sum = sumOf (f .held) }

@@ -10,7 +10,7 @@ ghost use Rattle.digest.specs.Machine.{sumOf};
 ghost use Rattle.layout.specs.Block;
 ghost use Rattle.layout.specs.Block.{registers-bytes, registers-at, block-of};
 ghost use Rattle.suspended.specs.Machine.{suspendedOf};
-use cipher::State;
+use cipher::Registers;
 use digest::Held;
 use lfsr::Lfsr;
 
@@ -19,7 +19,7 @@ pub struct Suspended {
     pub phase: u8,
     pub ad: u64,
     pub text: u64,
-    pub state: State,
+    pub registers: Registers,
     pub held: Held,
 }
 
@@ -33,7 +33,7 @@ fn put_cells(out: &mut [u8], at: usize, l: [u16; 16])
 }
 
 // The 112 bytes of the registers, at a place.
-pub fn put_state(out: &mut [u8], at: usize, s: State)
+pub fn put_registers(out: &mut [u8], at: usize, s: Registers)
     requires { ⌜ at + 112 ≤ length (now out) ⌝ }
     ensures { λ _. ⌜ now (out .exit) ≡ sets (now (out .entry)) at (registers-bytes (registersOf s)) ⌝ }
 {
@@ -51,7 +51,7 @@ pub fn put_state(out: &mut [u8], at: usize, s: State)
 }
 
 // And the registers that 112 bytes at a place list.
-pub fn get_state(s: &[u8], at: usize) -> State
+pub fn get_registers(s: &[u8], at: usize) -> Registers
     requires { ⌜ at + 112 ≤ length (now s) ⌝ }
     ensures { λ r. ⌜ registersOf r ≡ registers-at (part at 112 (now (s .entry))) ⌝ }
 {
@@ -61,7 +61,7 @@ pub fn get_state(s: &[u8], at: usize) -> State
     let r2 = words::load(s, at + 80);
     let r3 = words::load(s, at + 96);
     let l = Lfsr { a: a, b: b };
-    State {
+    Registers {
         lfsr: l,
         r1: r1,
         r2: r2,
@@ -98,13 +98,13 @@ pub fn get_held(s: &[u8], at: usize) -> Held
 pub fn block_of(f: Suspended) -> [u8; 512]
     ensures { λ r. ⌜ r ≡ block-of (suspendedOf f) ⌝ }
 {
-    let state = f.state;
+    let registers = f.registers;
     let held = f.held;
     let mut block = [0u8; 512];
     block[0] = f.phase;
     fields::put(&mut block, 4, 4, f.ad);
     fields::put(&mut block, 8, 4, f.text);
-    put_state(&mut block, 16, state);
+    put_registers(&mut block, 16, registers);
     put_held(&mut block, 128, held);
     let sum = fields::check(&block);
     fields::put(&mut block, 508, 4, sum as u64);
@@ -119,13 +119,13 @@ pub fn read(block: &[u8]) -> Suspended
     let phase = block[0];
     let ad = fields::get(block, 4, 4);
     let text = fields::get(block, 8, 4);
-    let state = get_state(block, 16);
+    let registers = get_registers(block, 16);
     let held = get_held(block, 128);
     Suspended {
         phase: phase,
         ad: ad,
         text: text,
-        state: state,
+        registers: registers,
         held: held,
     }
 }

@@ -8,8 +8,10 @@ use borrow.Author.Tests.{eqb-true, not-false, eq-eqb, ne-eqb, lt-ltb, le-ltb}
 use lib.Dec.{eqb}
 use lib.ListN.{length, drop, set}
 use Rattle.scope.specs.Refusals.{pick, granted}
+use Rattle.cipher.specs.State.{State}
 use Rattle.session.specs.Session.{Session}
 use Rattle.tulvekas.specs.Order.{next, room, buffer-after}
+use Rattle.tulvekas.specs.StateBytes.{state-bytes, state-in, LeavesState}
 use Rattle.tulvekas.specs.SessionBytes.{session-bytes, session-in, Leaves}
 use Rattle.tulvekas.specs.Sessions.{is-session, whole}
 
@@ -26,7 +28,10 @@ module _ {r n : ℕ} (e : r ≡ n) where
   unwritten k v out h = refused (v ++ drop k out) out h
 
   pub leaves-all : (g : Session) (s : List ℕ) → ¬ (r ≡ 0) → Leaves n g s s
-  leaves-all g s h = record { bytes = unwritten 216 (session-bytes g) s h; lists = refused g (session-in s) h }
+  leaves-all g s h = record { bytes = unwritten 224 (session-bytes g) s h; lists = refused g (session-in s) h }
+
+  pub state-leaves-all : (g : State) (s : List ℕ) → ¬ (r ≡ 0) → LeavesState n g s s
+  state-leaves-all g s h = record { bytes = unwritten 120 (state-bytes g) s h; lists = refused g (state-in s) h }
 
 module _ {n : ℕ} (e : 0 ≡ n) where
   pub accepted : {A : Type 0} (a b : A) → a ≡ granted n a b
@@ -35,8 +40,15 @@ module _ {n : ℕ} (e : 0 ≡ n) where
   pub leaves-stored : (g g′ : Session) (s after : List ℕ) → g ≡ g′ → Leaves 0 g s after → Leaves n g′ s after
   leaves-stored g g′ s after f l =
       record {
-        bytes = l .bytes ∙ ap (λ (u : Session). session-bytes u ++ drop 216 s) f ∙ accepted (session-bytes g′ ++ drop 216 s) s;
+        bytes = l .bytes ∙ ap (λ (u : Session). session-bytes u ++ drop 224 s) f ∙ accepted (session-bytes g′ ++ drop 224 s) s;
         lists = l .lists ∙ f ∙ accepted g′ (session-in s);
+      }
+
+  pub state-leaves-stored : (g g′ : State) (s after : List ℕ) → g ≡ g′ → LeavesState 0 g s after → LeavesState n g′ s after
+  state-leaves-stored g g′ s after f l =
+      record {
+        bytes = l .bytes ∙ ap (λ (u : State). state-bytes u ++ drop 120 s) f ∙ accepted (state-bytes g′ ++ drop 120 s) s;
+        lists = l .lists ∙ f ∙ accepted g′ (state-in s);
       }
 
 -- what a refused call left is left by one that says so again
@@ -76,13 +88,25 @@ module _ (k : ℕ) (out : List ℕ) (later : ℕ) where
   pub fits : k ≤ length out → later ≡ room k out later
   fits h = rw (le-ltb (length out) k h)
 
+-- m is the number of the call below, behind which a buffer is tested; n is what the code was answered
+module _ (k : ℕ) (out : List ℕ) {n m : ℕ} (e : n ≡ m) where
+  pub then-refused : ¬ (n ≡ 0) → n ≡ next m (room k out 0)
+  then-refused h = e ∙ below-refuses m (room k out 0) (λ z. h (e ∙ z))
+
+  module _ (z : n ≡ 0) where
+    pub then-short : length out < k → 4 ≡ next m (room k out 0)
+    then-short h = short k out 0 h ∙ below-accepts m (room k out 0) (sym z ∙ e)
+
+    pub then-fits : k ≤ length out → 0 ≡ next m (room k out 0)
+    then-fits h = fits k out 0 h ∙ below-accepts m (room k out 0) (sym z ∙ e)
+
 -- r is what the code says of the session's length
 module _ (s : List ℕ) {r : Bool} (e : r ≡ is-session s) where
   pub torn : (later : ℕ) → not r ≡ true → 8 ≡ whole s later
   torn later h = rw (← e, h)
 
-  pub long : not r ≡ false → length s ≡ 216
-  long h = eqb-true (length s) 216 (sym e ∙ not-false r h)
+  pub long : not r ≡ false → length s ≡ 224
+  long h = eqb-true (length s) 224 (sym e ∙ not-false r h)
 
-pub sound : (s : List ℕ) (later : ℕ) → length s ≡ 216 → later ≡ whole s later
-sound s later h = rw (eq-eqb (length s) 216 h)
+pub sound : (s : List ℕ) (later : ℕ) → length s ≡ 224 → later ≡ whole s later
+sound s later h = rw (eq-eqb (length s) 224 h)

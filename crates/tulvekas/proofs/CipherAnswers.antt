@@ -1,5 +1,6 @@
--- The answers of keystream and trace, by what they find.
-use mathlib.Core.Path.{_≡_, refl, _∙_}
+-- The answers of keystream, start, run, the state of a block and trace, by what they find.
+use mathlib.Core.Path.{_≡_, refl, sym, ap, _∙_}
+use mathlib.Core.Bool.{true, false}
 use mathlib.Core.List.{List, [], _∷_, _++_}
 use Prim.Native.Nat.{ℕ, _*_, _≤_, _<_}
 use native.Mathlib.Omega.{arith}
@@ -10,14 +11,16 @@ use Rattle.words.proofs.Writing.{put-front}
 use Rattle.scope.specs.Limits.{most-blocks}
 use Rattle.cipher.specs.Registers.{Registers, IsRegisters}
 use Rattle.cipher.specs.Run.{forward, blocks}
+use Rattle.cipher.specs.State.{State, moved, run-number, run-state, run-part}
 use Rattle.cipher.proofs.Moves.{blocks-length}
 use Rattle.start.specs.Start.{Mode, start-number}
 use Rattle.start.specs.Leads.{Traced, Traced.origin, Traced.refused}
 use Rattle.start.specs.Trace.{trace}
-use Rattle.layout.specs.Block.{registers-at}
+use Rattle.layout.specs.Rules.{well-laid}
 use Rattle.tulvekas.specs.Order.{room}
-use Rattle.tulvekas.specs.Cipher.{fitting, keystream-answer, trace-of-bytes, mode-byte, trace-answer, trace-iv, trace-sealed}
-use Rattle.tulvekas.proofs.Answering.{never, unwritten, accepted, below-refuses, short, fits}
+use Rattle.tulvekas.specs.StateBytes.{state-in}
+use Rattle.tulvekas.specs.Cipher.{fitting, keystream-answer, start-answer, back-named, run-answer, run-writes, state-of-answer, trace-of-bytes, mode-byte, trace-answer, trace-iv, trace-sealed}
+use Rattle.tulvekas.proofs.Answering.{never, unwritten, accepted, below-refuses, short, fits, then-refused, then-short, then-fits}
 
 module _ (key iv out : List ℕ) {n : ℕ} (e : n ≡ start-number key iv) where
   pub keystream-refused : ¬ (n ≡ 0) → n ≡ keystream-answer key iv out
@@ -38,20 +41,81 @@ pub run-fills : (s : Registers) → IsRegisters s → (out o : List ℕ) → o �
     → o ≡ blocks forward (fitting out) s ++ drop (16 * fitting out) out
 run-fills s g out o e = e ∙ put-front out (blocks forward (fitting out) s) (16 * fitting out) (blocks-length forward (fitting out) s g) (omega arith)
 
+-- ---- start
+
+module _ (key iv s : List ℕ) {n : ℕ} (e : n ≡ start-number key iv) where
+  pub start-refused : ¬ (n ≡ 0) → n ≡ start-answer key iv s
+  unfolding start-answer
+  start-refused = then-refused 120 s e
+
+  module _ (z : n ≡ 0) where
+    pub start-short : length s < 120 → 4 ≡ start-answer key iv s
+    unfolding start-answer
+    start-short = then-short 120 s e z
+
+    pub start-right : 120 ≤ length s → 0 ≡ start-answer key iv s
+    unfolding start-answer
+    start-right = then-fits 120 s e z
+
+-- ---- run
+
+module _ (s : List ℕ) (n back : ℕ) (out : List ℕ) where
+  pub run-bad-state : ¬ (length s ≡ 120) → 8 ≡ run-answer s n back out
+  unfolding run-answer
+  run-bad-state h = rw (ne-eqb (length s) 120 h)
+
+  -- r is what the run below answers, w how many bytes it writes, u the state that the bytes list
+  module _ (long : length s ≡ 120) {u : State} (eu : u ≡ state-in s) {r : ℕ} (e : r ≡ run-number (back-named back) (u .count) (length out) n) where
+    pub run-below : r ≡ run-answer s n back out
+    unfolding run-answer
+    run-below = rw (eq-eqb (length s) 120 long) (e ∙ ap (λ (v : State). run-number (back-named back) (v .count) (length out) n) eu)
+
+    pub run-moves : r ≡ 0 → run-state (back-named back) u (length out) n ≡ moved (back-named back) n (state-in s)
+    unfolding run-state
+    run-moves z = rw (← e, z) (ap (moved (back-named back) n) eu)
+
+    module _ {w : ℕ} (ew : w ≡ length (run-part (back-named back) u (length out) n)) where
+      pub run-unwritten : ¬ (r ≡ 0) → run-part (back-named back) u (length out) n ++ drop w out ≡ run-writes s n back out
+      unfolding run-part
+      run-unwritten h = rw (ew, ← e, ne-eqb r 0 h) (unwritten run-below (16 * n) (blocks (back-named back) n (state-in s .registers)) out h)
+
+      pub run-written : r ≡ 0 → IsRegisters (u .registers) → run-part (back-named back) u (length out) n ++ drop w out ≡ run-writes s n back out
+      unfolding run-part
+      run-written z g =
+          rw (ew, ← e, z) (ap (λ (k : ℕ). blocks (back-named back) n (u .registers) ++ drop k out) (blocks-length (back-named back) n (u .registers) g)
+          ∙ ap (λ (v : State). blocks (back-named back) n (v .registers) ++ drop (16 * n) out) eu
+          ∙ accepted (sym z ∙ run-below) (blocks (back-named back) n (state-in s .registers) ++ drop (16 * n) out) out)
+
+-- ---- the state of a block
+
+module _ (b s : List ℕ) where
+  pub state-of-bad : well-laid b ≡ false → 8 ≡ state-of-answer b s
+  unfolding state-of-answer
+  state-of-bad h = rw h
+
+  module _ (h : well-laid b ≡ true) where
+    pub state-of-short : length s < 120 → 4 ≡ state-of-answer b s
+    unfolding state-of-answer
+    state-of-short k = rw h (short 120 s 0 k)
+
+    pub state-of-right : 120 ≤ length s → 0 ≡ state-of-answer b s
+    unfolding state-of-answer
+    state-of-right k = rw h (fits 120 s 0 k)
+
 -- ---- trace
 
-module _ (s key : List ℕ) (n : ℕ) where
-  pub trace-bad-key : ¬ (length key ≡ 32) → refused 1 ≡ trace-of-bytes s key n
+module _ (s key : List ℕ) where
+  pub trace-bad-key : ¬ (length key ≡ 32) → refused 1 ≡ trace-of-bytes s key
   unfolding trace-of-bytes
   trace-bad-key h = rw (ne-eqb (length key) 32 h)
 
-  pub trace-bad-state : length key ≡ 32 → ¬ (length s ≡ 112) → refused 8 ≡ trace-of-bytes s key n
+  pub trace-bad-state : length key ≡ 32 → ¬ (length s ≡ 120) → refused 8 ≡ trace-of-bytes s key
   unfolding trace-of-bytes
-  trace-bad-state h k = rw (eq-eqb (length key) 32 h, ne-eqb (length s) 112 k)
+  trace-bad-state h k = rw (eq-eqb (length key) 32 h, ne-eqb (length s) 120 k)
 
-  pub trace-walks : length key ≡ 32 → length s ≡ 112 → trace (registers-at s) key n ≡ trace-of-bytes s key n
+  pub trace-walks : length key ≡ 32 → length s ≡ 120 → trace (state-in s) key ≡ trace-of-bytes s key
   unfolding trace-of-bytes
-  trace-walks h k = rw (eq-eqb (length key) 32 h, eq-eqb (length s) 112 k)
+  trace-walks h k = rw (eq-eqb (length key) 32 h, eq-eqb (length s) 120 k)
 
 -- what the code answers, and leaves in both buffers
 abbrev pub Told : Traced → (iv flag : List ℕ) → ℕ → (iv′ flag′ : List ℕ) → Type 0

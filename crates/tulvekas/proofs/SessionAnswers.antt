@@ -15,21 +15,21 @@ use Rattle.suspend.specs.Walk.{resume-call}
 use Rattle.tulvekas.specs.Order.{next, room}
 use Rattle.tulvekas.specs.SessionBytes.{session-in}
 use Rattle.tulvekas.specs.Sessions.{whole, begin-answer, finish-answer, resume-answer}
-use Rattle.tulvekas.proofs.Answering.{granted-again, below-refuses, below-accepts, short, fits, sound}
+use Rattle.tulvekas.proofs.Answering.{granted-again, below-refuses, below-accepts, short, fits, then-refused, then-short, then-fits, sound}
 
 module _ (key iv s : List ℕ) {n : ℕ} (e : n ≡ start-number key iv) where
   pub begin-refused : ¬ (n ≡ 0) → n ≡ begin-answer key iv s
   unfolding begin-answer begin-call
-  begin-refused h = e ∙ below-refuses (start-number key iv) (room 216 s 0) (λ z. h (e ∙ z))
+  begin-refused = then-refused 224 s e
 
   module _ (z : n ≡ 0) where
-    pub begin-short : length s < 216 → 4 ≡ begin-answer key iv s
+    pub begin-short : length s < 224 → 4 ≡ begin-answer key iv s
     unfolding begin-answer begin-call
-    begin-short h = short 216 s 0 h ∙ below-accepts (start-number key iv) (room 216 s 0) (sym z ∙ e)
+    begin-short = then-short 224 s e z
 
-    pub begin-right : 216 ≤ length s → 0 ≡ begin-answer key iv s
+    pub begin-right : 224 ≤ length s → 0 ≡ begin-answer key iv s
     unfolding begin-answer begin-call
-    begin-right h = fits 216 s 0 h ∙ below-accepts (start-number key iv) (room 216 s 0) (sym z ∙ e)
+    begin-right = then-fits 224 s e z
 
 -- a refused call leaves the output: said once, or twice
 pub text-again : (v : Session) (p out : List ℕ) → text-call v p out .out ≡ granted (text-call v p out .number) (text-call v p out .out) out
@@ -40,9 +40,9 @@ pub suspend-again : (v : Session) (b : List ℕ) → suspend-call v b .out ≡ g
 unfolding suspend-call
 suspend-again v b = granted-again (suspend-number v b) (block-of (suspended-of v) ++ drop 512 b) b
 
--- ---- calls that read a session: u is the one that its 216 bytes list
+-- ---- calls that read a session: u is the one that its 224 bytes list
 
-module _ (s : List ℕ) (long : length s ≡ 216) {u : Session} (e : u ≡ session-in s) where
+module _ (s : List ℕ) (long : length s ≡ 224) {u : Session} (e : u ≡ session-in s) where
   -- the call below
   module _ (f : Session → Given) where
     pub below-number : f u .number ≡ whole s (f (session-in s) .number)
@@ -81,18 +81,18 @@ module _ (s : List ℕ) (long : length s ≡ 216) {u : Session} (e : u ≡ sessi
 module _ (key b s iv : List ℕ) {n : ℕ} (e : n ≡ resume-call key b .number) where
   pub resume-refused : ¬ (n ≡ 0) → n ≡ resume-answer key b s iv
   unfolding resume-answer
-  resume-refused h = e ∙ below-refuses (resume-call key b .number) (room 216 s (room 16 iv 0)) (λ z. h (e ∙ z))
+  resume-refused h = e ∙ below-refuses (resume-call key b .number) (room 224 s (room 16 iv 0)) (λ z. h (e ∙ z))
 
   module _ (z : n ≡ 0) where
-    resume-room : room 216 s (room 16 iv 0) ≡ resume-answer key b s iv
+    resume-room : room 224 s (room 16 iv 0) ≡ resume-answer key b s iv
     unfolding resume-answer
-    resume-room = below-accepts (resume-call key b .number) (room 216 s (room 16 iv 0)) (sym z ∙ e)
+    resume-room = below-accepts (resume-call key b .number) (room 224 s (room 16 iv 0)) (sym z ∙ e)
 
-    pub resume-short : length s < 216 → 4 ≡ resume-answer key b s iv
-    resume-short h = short 216 s (room 16 iv 0) h ∙ resume-room
+    pub resume-short : length s < 224 → 4 ≡ resume-answer key b s iv
+    resume-short h = short 224 s (room 16 iv 0) h ∙ resume-room
 
-    pub resume-short-iv : 216 ≤ length s → length iv < 16 → 4 ≡ resume-answer key b s iv
-    resume-short-iv h k = short 16 iv 0 k ∙ fits 216 s (room 16 iv 0) h ∙ resume-room
+    pub resume-short-iv : 224 ≤ length s → length iv < 16 → 4 ≡ resume-answer key b s iv
+    resume-short-iv h k = short 16 iv 0 k ∙ fits 224 s (room 16 iv 0) h ∙ resume-room
 
-    pub resume-right : 216 ≤ length s → 16 ≤ length iv → 0 ≡ resume-answer key b s iv
-    resume-right h k = fits 16 iv 0 k ∙ fits 216 s (room 16 iv 0) h ∙ resume-room
+    pub resume-right : 224 ≤ length s → 16 ≤ length iv → 0 ≡ resume-answer key b s iv
+    resume-right h k = fits 16 iv 0 k ∙ fits 224 s (room 16 iv 0) h ∙ resume-room

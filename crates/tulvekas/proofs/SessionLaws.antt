@@ -1,4 +1,4 @@
--- The 216 bytes of a session, field by field: they determine the session, and how code writes and reads them.
+-- The 224 bytes of a session, field by field: they determine the session, and how code writes and reads them.
 use mathlib.Core.Path.{_≡_, sym, ap, _∙_}
 use mathlib.Core.List.{List, [], _∷_, _++_, append-assoc, append-nil}
 use Prim.Native.Nat.{ℕ, _+_, _<_, _≤_}
@@ -11,11 +11,11 @@ use Rattle.words.proofs.Rows.{row-append}
 use Rattle.words.proofs.Bytes.{little-long, little-row, number-little}
 use Rattle.words.proofs.Parts.{At, down, here}
 use Rattle.words.proofs.Writing.{put-next, put-front}
-use Rattle.layout.specs.Block.{registers-bytes, registers-at}
-use Rattle.layout.proofs.RegisterBytes.{good-row, registers-back}
 use Rattle.session.specs.Session.{Session}
+use Rattle.tulvekas.specs.StateBytes.{state-bytes, state-in}
 use Rattle.tulvekas.specs.SessionBytes.{session-bytes, session-in, Leaves}
 use Rattle.tulvekas.proofs.Sizes.{Sized}
+use Rattle.tulvekas.proofs.StateLaws.{state-row, state-whole}
 
 regroup : (f0 f1 f2 f3 f4 f5 f6 f7 f8 r : List ℕ)
     → (f0 ++ f1 ++ f2 ++ f3 ++ f4 ++ f5 ++ f6 ++ f7 ++ f8) ++ r ≡ joined (f0 ∷ f1 ∷ f2 ∷ f3 ∷ f4 ∷ f5 ∷ f6 ∷ f7 ∷ f8 ∷ r ∷ [])
@@ -29,32 +29,32 @@ unfolding little
 first-byte n r h = mod-eq-of-lt h
 
 module _ (s : Session) (g : Sized s) where
-  head-row : Row 136 256 (little 8 (s .phase) ++ little 8 (s .ad) ++ little 8 (s .text) ++ registers-bytes (s .registers))
+  head-row : Row 144 256 (little 8 (s .phase) ++ little 8 (s .ad) ++ little 8 (s .text) ++ state-bytes (s .state))
   head-row =
       let r16 = row-append 256 8 8 (little-row 8 (s .phase)) (little-row 8 (s .ad)) in
       let r24 = row-append 256 16 8 r16 (little-row 8 (s .text)) in
-      row-append 256 24 112 r24 (good-row (s .registers) (g .registers-good))
+      row-append 256 24 120 r24 (state-row (s .state) (g .state-sized))
 
   drawn-row : Row 48 256 (s .h ++ s .pad ++ s .current)
   drawn-row = row-append 256 32 16 (row-append 256 16 16 (g .h-block) (g .pad-block)) (g .current-block)
 
-  pub session-row : Row 216 256 (session-bytes s)
+  pub session-row : Row 224 256 (session-bytes s)
   unfolding session-bytes
   session-row =
-      let r152 = row-append 256 136 16 head-row (g .h-block) in
-      let r168 = row-append 256 152 16 r152 (g .pad-block) in
-      let r184 = row-append 256 168 16 r168 (g .current-block) in
-      row-append 256 200 16 (row-append 256 184 16 r184 (g .hash-block)) (g .pending-block)
+      let r160 = row-append 256 144 16 head-row (g .h-block) in
+      let r176 = row-append 256 160 16 r160 (g .pad-block) in
+      let r192 = row-append 256 176 16 r176 (g .current-block) in
+      row-append 256 208 16 (row-append 256 192 16 r192 (g .hash-block)) (g .pending-block)
 
   -- whatever stands behind them
   module _ (r : List ℕ) where
     at0 : At (session-bytes s ++ r) 0
-        (little 8 (s .phase) ∷ little 8 (s .ad) ∷ little 8 (s .text) ∷ registers-bytes (s .registers) ∷ s .h ∷ s .pad ∷ s .current ∷ s .sum .hash
+        (little 8 (s .phase) ∷ little 8 (s .ad) ∷ little 8 (s .text) ∷ state-bytes (s .state) ∷ s .h ∷ s .pad ∷ s .current ∷ s .sum .hash
         ∷ s .sum .pending ∷ r ∷ [])
     unfolding session-bytes
     at0 =
         record {
-          is = regroup (little 8 (s .phase)) (little 8 (s .ad)) (little 8 (s .text)) (registers-bytes (s .registers)) (s .h) (s .pad) (s .current)
+          is = regroup (little 8 (s .phase)) (little 8 (s .ad)) (little 8 (s .text)) (state-bytes (s .state)) (s .h) (s .pad) (s .current)
               (s .sum .hash) (s .sum .pending) r;
         }
 
@@ -64,26 +64,25 @@ module _ (s : Session) (g : Sized s) where
         let d8 = down at0 8 (little-long 8 (s .phase)) in
         let d16 = down d8 8 (little-long 8 (s .ad)) in
         let d24 = down d16 8 (little-long 8 (s .text)) in
-        let d136 = down d24 112 (good-row (s .registers) (g .registers-good) .long) in
-        let d152 = down d136 16 (g .h-block .long) in
-        let d168 = down d152 16 (g .pad-block .long) in
-        let d184 = down d168 16 (g .current-block .long) in
-        let d200 = down d184 16 (g .hash-block .long) in
+        let d144 = down d24 120 (state-row (s .state) (g .state-sized) .long) in
+        let d160 = down d144 16 (g .h-block .long) in
+        let d176 = down d160 16 (g .pad-block .long) in
+        let d192 = down d176 16 (g .current-block .long) in
+        let d208 = down d192 16 (g .hash-block .long) in
         let phase = ap (λ (l : List ℕ). getD l 0 0) (at0 .is) ∙ first-byte (s .phase) _ (g .phase-byte) in
         let ad = ap number (here d8 8 (little-long 8 (s .ad))) ∙ number-little 8 (s .ad) (g .ad-fits) in
         let text = ap number (here d16 8 (little-long 8 (s .text))) ∙ number-little 8 (s .text) (g .text-fits) in
-        let registers =
-        ap registers-at (here d24 112 (good-row (s .registers) (g .registers-good) .long)) ∙ registers-back (s .registers) (g .registers-good) in
-        let h = here d136 16 (g .h-block .long) in
-        let pad = here d152 16 (g .pad-block .long) in
-        let current = here d168 16 (g .current-block .long) in
-        let hash = here d184 16 (g .hash-block .long) in
-        let pending = here d200 16 (g .pending-block .long) in
+        let state = ap state-in (here d24 120 (state-row (s .state) (g .state-sized) .long)) ∙ state-whole (s .state) (g .state-sized) in
+        let h = here d144 16 (g .h-block .long) in
+        let pad = here d160 16 (g .pad-block .long) in
+        let current = here d176 16 (g .current-block .long) in
+        let hash = here d192 16 (g .hash-block .long) in
+        let pending = here d208 16 (g .pending-block .long) in
         λ i. record {
           phase = phase i;
           ad = ad i;
           text = text i;
-          registers = registers i;
+          state = state i;
           h = h i;
           pad = pad i;
           current = current i;
@@ -96,30 +95,30 @@ module _ (s : Session) (g : Sized s) where
 
   -- ---- how code writes them, to the front of a buffer
 
-  module _ (out : List ℕ) (fits : 216 ≤ length out) where
+  module _ (out : List ℕ) (fits : 224 ≤ length out) where
     put-session : {o1 o2 o3 o4 o5 o6 : List ℕ} → o1 ≡ sets out 0 (little 8 (s .phase)) → o2 ≡ sets o1 8 (little 8 (s .ad))
-        → o3 ≡ sets o2 16 (little 8 (s .text)) → o4 ≡ sets o3 24 (registers-bytes (s .registers)) → o5 ≡ sets o4 136 (s .h ++ s .pad ++ s .current)
-        → o6 ≡ sets o5 184 (s .sum .hash ++ s .sum .pending) → o6 ≡ session-bytes s ++ drop 216 out
+        → o3 ≡ sets o2 16 (little 8 (s .text)) → o4 ≡ sets o3 24 (state-bytes (s .state)) → o5 ≡ sets o4 144 (s .h ++ s .pad ++ s .current)
+        → o6 ≡ sets o5 192 (s .sum .hash ++ s .sum .pending) → o6 ≡ session-bytes s ++ drop 224 out
     unfolding session-bytes
     put-session e1 e2 e3 e4 e5 e6 =
         let n8 = little-row 8 (s .phase) in
         let n16 = row-append 256 8 8 n8 (little-row 8 (s .ad)) in
         let n24 = row-append 256 16 8 n16 (little-row 8 (s .text)) in
-        let n184 = row-append 256 136 48 head-row drawn-row in
+        let n192 = row-append 256 144 48 head-row drawn-row in
         let f16 = little 8 (s .phase) ++ little 8 (s .ad) in
-        let f136 = f16 ++ little 8 (s .text) ++ registers-bytes (s .registers) in
-        let f184 = f136 ++ (s .h ++ s .pad ++ s .current) in
+        let f144 = f16 ++ little 8 (s .text) ++ state-bytes (s .state) in
+        let f192 = f144 ++ (s .h ++ s .pad ++ s .current) in
         let p16 = put-next out (little 8 (s .phase)) (little 8 (s .ad)) 0 8 (let l = n8 .long in omega arith) e1 e2 in
         let p24 = put-next out f16 (little 8 (s .text)) 0 16 (let l = n16 .long in omega arith) p16 e3 in
-        let p136 = put-next out (f16 ++ little 8 (s .text)) (registers-bytes (s .registers)) 0 24 (let l = n24 .long in omega arith) p24 e4 in
-        let p184 = put-next out f136 (s .h ++ s .pad ++ s .current) 0 136 (let l = head-row .long in omega arith) p136 e5 in
-        let all = put-next out f184 (s .sum .hash ++ s .sum .pending) 0 184 (let l = n184 .long in omega arith) p184 e6 in
-        all ∙ ap (sets out 0) (in-parts f136 (s .h) (s .pad) (s .current) (s .sum .hash) (s .sum .pending))
-        ∙ put-front out (session-bytes s) 216 (session-row .long) fits
+        let p144 = put-next out (f16 ++ little 8 (s .text)) (state-bytes (s .state)) 0 24 (let l = n24 .long in omega arith) p24 e4 in
+        let p192 = put-next out f144 (s .h ++ s .pad ++ s .current) 0 144 (let l = head-row .long in omega arith) p144 e5 in
+        let all = put-next out f192 (s .sum .hash ++ s .sum .pending) 0 192 (let l = n192 .long in omega arith) p192 e6 in
+        all ∙ ap (sets out 0) (in-parts f144 (s .h) (s .pad) (s .current) (s .sum .hash) (s .sum .pending))
+        ∙ put-front out (session-bytes s) 224 (session-row .long) fits
 
     pub session-stored : {o1 o2 o3 o4 o5 o6 : List ℕ} → o1 ≡ sets out 0 (little 8 (s .phase)) → o2 ≡ sets o1 8 (little 8 (s .ad))
-        → o3 ≡ sets o2 16 (little 8 (s .text)) → o4 ≡ sets o3 24 (registers-bytes (s .registers)) → o5 ≡ sets o4 136 (s .h ++ s .pad ++ s .current)
-        → o6 ≡ sets o5 184 (s .sum .hash ++ s .sum .pending) → Leaves 0 s out o6
+        → o3 ≡ sets o2 16 (little 8 (s .text)) → o4 ≡ sets o3 24 (state-bytes (s .state)) → o5 ≡ sets o4 144 (s .h ++ s .pad ++ s .current)
+        → o6 ≡ sets o5 192 (s .sum .hash ++ s .sum .pending) → Leaves 0 s out o6
     session-stored e1 e2 e3 e4 e5 e6 =
         let e = put-session e1 e2 e3 e4 e5 e6 in
-        record { bytes = e; lists = ap session-in e ∙ session-back (drop 216 out) }
+        record { bytes = e; lists = ap session-in e ∙ session-back (drop 224 out) }

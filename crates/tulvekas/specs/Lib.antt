@@ -1,4 +1,5 @@
 pub mod Order
+pub mod StateBytes
 pub mod SessionBytes
 pub mod Sessions
 pub mod Pages

@@ -1,5 +1,5 @@
--- A session in 216 bytes, as C keeps it between calls: document 01 says what a session keeps ("Tag arithmetic" and "Sessions and parking") and
--- leaves its form open. Numbers are low byte first; the registers are listed as in a suspended block; a block is 16 bytes. H, the end pad and the
+-- A session in 224 bytes, as C keeps it between calls: document 01 says what a session keeps ("Tag arithmetic" and "Sessions and parking") and
+-- leaves its form open. Numbers are low byte first; the state is its 120 bytes; a block is 16 bytes. H, the end pad and the
 -- keystream block in use are kept too, so that no call walks back for them. The bytes say nothing but what the session is: one that was suspended
 -- and resumed has the bytes that it had before.
 use Prim.Native.Nat.{ℕ}
@@ -8,18 +8,18 @@ use mathlib.Core.List.{List, _++_}
 use lib.ListN.{getD}
 use Rattle.scope.specs.Refusals.{granted}
 use Rattle.words.specs.Bytes.{little, number, part}
-use Rattle.layout.specs.Block.{registers-bytes, registers-at}
 use Rattle.session.specs.Session.{Session}
 use Rattle.tulvekas.specs.Order.{buffer-after}
+use Rattle.tulvekas.specs.StateBytes.{state-bytes, state-in}
 
--- 0-7 phase; 8-15 data length; 16-23 text length; 24-135 the registers; 136-151 H; 152-167 end pad; 168-183 keystream block drawn last;
--- 184-199 hash so far; 200-215 bytes not yet hashed
+-- 0-7 phase; 8-15 data length; 16-23 text length; 24-143 the state; 144-159 H; 160-175 end pad; 176-191 keystream block drawn last;
+-- 192-207 hash so far; 208-223 bytes not yet hashed
 unfoldable pub session-bytes : Session → List ℕ
 session-bytes s =
     little 8 (s .phase)
     ++ little 8 (s .ad)
     ++ little 8 (s .text)
-    ++ registers-bytes (s .registers)
+    ++ state-bytes (s .state)
     ++ s .h
     ++ s .pad
     ++ s .current
@@ -33,14 +33,14 @@ session-in b =
       phase = getD b 0 0;
       ad = number (part 8 8 b);
       text = number (part 16 8 b);
-      registers = registers-at (part 24 112 b);
-      h = part 136 16 b;
-      pad = part 152 16 b;
-      current = part 168 16 b;
-      sum = record { hash = part 184 16 b; pending = part 200 16 b };
+      state = state-in (part 24 120 b);
+      h = part 144 16 b;
+      pad = part 160 16 b;
+      current = part 176 16 b;
+      sum = record { hash = part 192 16 b; pending = part 208 16 b };
     }
 
 -- what a call that answers n and gives the session g leaves in a lent session: its bytes, and the session that they then list
 pub record Leaves (n : ℕ) (g : Session) (session after : List ℕ) : Type 0 where
-  pub bytes : after ≡ buffer-after n 216 (session-bytes g) session
+  pub bytes : after ≡ buffer-after n 224 (session-bytes g) session
   pub lists : session-in after ≡ granted n g (session-in session)

@@ -1,4 +1,4 @@
--- The calls of a session as C makes them, suspend and resume with them (document 01, "Sessions and parking": park and take up), on sessions in 216 bytes. For each:
+-- The calls of a session as C makes them, suspend and resume with them (document 01, "Sessions and parking": park and take up), on sessions in 224 bytes. For each:
 -- the number that it answers, which is that of the call below, with 8, first of all, for a session of another length, and 4, last, for a buffer
 -- that is too short; what it leaves in a session that it was lent to write; and what stands in its output. A refusal changes no byte.
 use Prim.Native.Nat.{ℕ}
@@ -13,9 +13,9 @@ use Rattle.suspend.specs.Walk.{resume-call}
 use Rattle.tulvekas.specs.Order.{next, room, buffer-after}
 use Rattle.tulvekas.specs.SessionBytes.{session-in, Leaves}
 
--- a session that is read is 216 bytes
+-- a session that is read is 224 bytes
 abbrev pub is-session : (session : List ℕ) → Bool
-is-session s = eqb (length s) 216
+is-session s = eqb (length s) 224
 
 abbrev pub whole : (session : List ℕ) → ℕ → ℕ
 whole s later = refuse (not (is-session s)) bad-block later
@@ -23,7 +23,7 @@ whole s later = refuse (not (is-session s)) bad-block later
 -- ---- begin: 1, 2, 4
 
 unfoldable pub begin-answer : (key iv session : List ℕ) → ℕ
-begin-answer key iv s = next (begin-call key iv .number) (room 216 s 0)
+begin-answer key iv s = next (begin-call key iv .number) (room 224 s 0)
 
 abbrev pub begin-leaves : (key iv session after : List ℕ) → Type 0
 begin-leaves key iv s after = Leaves (begin-answer key iv s) (begin-call key iv .session) s after
@@ -36,7 +36,7 @@ data-answer s p = whole s (data-call (session-in s) p .number)
 abbrev pub data-leaves : (session piece after : List ℕ) → Type 0
 data-leaves s p after = Leaves (data-answer s p) (data-call (session-in s) p .session) s after
 
--- ---- text: 8, 7, 3, 4
+-- ---- text: 8, 7, 3, 9, 4
 
 unfoldable pub text-answer : (session piece out : List ℕ) → ℕ
 text-answer s p out = whole s (text-call (session-in s) p out .number)
@@ -69,7 +69,7 @@ suspend-writes s b = granted (suspend-answer s b) (suspend-call (session-in s) b
 -- ---- resume: 1, 8, 6, 4 for either buffer
 
 unfoldable pub resume-answer : (key block session iv : List ℕ) → ℕ
-resume-answer key b s iv = next (resume-call key b .number) (room 216 s (room 16 iv 0))
+resume-answer key b s iv = next (resume-call key b .number) (room 224 s (room 16 iv 0))
 
 abbrev pub resume-leaves : (key block session iv after : List ℕ) → Type 0
 resume-leaves key b s iv after = Leaves (resume-answer key b s iv) (resume-call key b .session) s after

@@ -1,26 +1,30 @@
 // The calls of documents 01 and 02 for C: numbers and lent bytes only. A slice is a pointer and a length there. Each call answers 0, or the number of the
 // refusal, which changes no lent byte; bytes behind what is written stay. Nothing is kept between calls but what the caller was handed: a
-// session is 216 lent bytes. Rust's rule for references holds for C as well: a buffer that a call writes overlaps no other buffer of that call.
+// session is 224 lent bytes, a state 120. Rust's rule for references holds for C as well: a buffer that a call writes overlaps no other buffer of that call.
 ghost use mathlib.Core.Path.{_≡_};
 ghost use mathlib.Core.List.{List, [], _∷_, _++_};
-ghost use Prim.Native.Nat.{ℕ, _≤_};
+ghost use Prim.Native.Nat.{ℕ, _+_, _≤_};
 ghost use lib.ListN.{length, drop};
 ghost use lib.Seq.{sets};
 ghost use Rattle.scope.specs.Refusals.{short-output};
+ghost use Rattle.words.specs.Bytes.{part};
 ghost use Rattle.words.specs.Machine.{bytesOf};
 ghost use Rattle.ghash.specs.Machine.{bytesOfElement};
+ghost use Rattle.cipher.specs.Machine.{stateOf};
 ghost use Rattle.start.specs.Machine.{modeOf};
 ghost use Rattle.session.specs.Machine.{sessionOf};
 ghost use Rattle.page.specs.Calls.{seal-number, open-number, open-out};
 ghost use Rattle.page_file.specs.Calls as Files;
 ghost use Rattle.retention.specs.Keeping.{keeping};
 ghost use Rattle.tulvekas.specs.Order.{next, room, buffer-after};
+ghost use Rattle.tulvekas.specs.StateBytes.{state-bytes, state-in, LeavesState};
 ghost use Rattle.tulvekas.specs.SessionBytes.{session-in, Leaves};
 ghost use Rattle.tulvekas.specs.Pages.{seal-answer, seal-writes, seal-writes-tag};
 ghost use Rattle.tulvekas.specs.Files.{file-open-answer, file-open-writes, file-open-length};
 ghost use Rattle.tulvekas.specs.Sessions.{is-session, begin-answer, begin-leaves, data-answer, data-leaves, text-answer, text-leaves, text-writes, finish-answer, finish-leaves, finish-writes, suspend-answer, suspend-writes, resume-answer, resume-leaves, resume-writes};
-ghost use Rattle.tulvekas.specs.Cipher.{mode-named, keystream-answer, keystream-writes, trace-of-bytes, mode-byte, trace-answer, trace-iv, trace-sealed};
+ghost use Rattle.tulvekas.specs.Cipher.{mode-named, keystream-answer, keystream-writes, start-answer, start-leaves, run-answer, run-leaves, run-writes, state-of-answer, state-of-leaves, trace-of-bytes, mode-byte, trace-answer, trace-iv, trace-sealed};
 ghost use Rattle.tulvekas.specs.Keeping.{kept-answer, kept-byte};
+use cipher::State;
 use cipher::lanes;
 use ghash::Element;
 use retention::Verdict;
@@ -36,9 +40,9 @@ const IV_BYTES: usize = 16;
 
 const TAG_BYTES: usize = 16;
 
-const SESSION_BYTES: usize = 216;
+const SESSION_BYTES: usize = 224;
 
-const STATE_BYTES: usize = 112;
+const STATE_BYTES: usize = 120;
 
 const LENGTH_BYTES: usize = 8;
 
@@ -158,6 +162,39 @@ pub extern "C" fn tulvekas_file_open(
     scope::ACCEPTED
 }
 
+// ---- states in bytes
+
+// A state's 120 bytes, at a place: the registers, then the count.
+fn put_state(out: &mut [u8], at: usize, s: State)
+    requires { ⌜ at + 120 ≤ length (now out) ⌝ }
+    ensures { λ _. ⌜ now (out .exit) ≡ sets (now (out .entry)) at (state-bytes (stateOf s)) ⌝ }
+{
+    let registers = s.registers;
+    suspended::put_registers(out, at, registers);
+    fields::put(out, at + 112, 8, s.count);
+}
+
+// And the state that 120 bytes at a place list.
+fn get_state(b: &[u8], at: usize) -> State
+    requires { ⌜ at + 120 ≤ length (now b) ⌝ }
+    ensures { λ r. ⌜ stateOf r ≡ state-in (part at 120 (now (b .entry))) ⌝ }
+{
+    let registers = suspended::get_registers(b, at);
+    let count = fields::get(b, at + 112, 8);
+    State {
+        registers: registers,
+        count: count,
+    }
+}
+
+// A state's bytes to the front of a buffer.
+fn store_state(out: &mut [u8], s: State)
+    requires { ⌜ 120 ≤ length (now out) ⌝ }
+    ensures { λ _. ⌜ LeavesState 0 (stateOf s) (now (out .entry)) (now (out .exit)) ⌝ }
+{
+    put_state(out, 0, s);
+}
+
 // ---- sessions in bytes
 
 // Whether a session that is to be read has its length.
@@ -169,17 +206,17 @@ fn is_session(b: &[u8]) -> bool
 
 // H, the end pad and the keystream block in use, at their place.
 fn put_drawn(out: &mut [u8], h: Element, pad: Block, current: Block)
-    requires { ⌜ 216 ≤ length (now out) ⌝ }
-    ensures { λ _. ⌜ now (out .exit) ≡ sets (now (out .entry)) 136 (bytesOfElement h ++ bytesOf pad ++ bytesOf current) ⌝ }
+    requires { ⌜ 224 ≤ length (now out) ⌝ }
+    ensures { λ _. ⌜ now (out .exit) ≡ sets (now (out .entry)) 144 (bytesOfElement h ++ bytesOf pad ++ bytesOf current) ⌝ }
 {
-    words::store(out, 136, ghash::to_block(h));
-    words::store(out, 152, pad);
-    words::store(out, 168, current);
+    words::store(out, 144, ghash::to_block(h));
+    words::store(out, 160, pad);
+    words::store(out, 176, current);
 }
 
 // A session's bytes to the front of a buffer.
 fn store_session(out: &mut [u8], s: Session)
-    requires { ⌜ 216 ≤ length (now out) ⌝ }
+    requires { ⌜ 224 ≤ length (now out) ⌝ }
     ensures { λ _. ⌜ Leaves 0 (sessionOf s) (now (out .entry)) (now (out .exit)) ⌝ }
 {
     let state = s.state;
@@ -190,24 +227,24 @@ fn store_session(out: &mut [u8], s: Session)
     fields::put(out, 0, 8, s.phase as u64);
     fields::put(out, 8, 8, s.ad);
     fields::put(out, 16, 8, s.text);
-    suspended::put_state(out, 24, state);
+    put_state(out, 24, state);
     put_drawn(out, h, pad, current);
-    suspended::put_held(out, 184, held);
+    suspended::put_held(out, 192, held);
 }
 
 // And the session that bytes list, whatever they are.
 fn load_session(b: &[u8]) -> Session
-    requires { ⌜ length (now b) ≡ 216 ⌝ }
+    requires { ⌜ length (now b) ≡ 224 ⌝ }
     ensures { λ r. ⌜ sessionOf r ≡ session-in (now (b .entry)) ⌝ }
 {
     let phase = b[0];
     let ad = fields::get(b, 8, 8);
     let text = fields::get(b, 16, 8);
-    let state = suspended::get_state(b, 24);
-    let h = ghash::from_block(words::load(b, 136));
-    let pad = words::load(b, 152);
-    let current = words::load(b, 168);
-    let held = suspended::get_held(b, 184);
+    let state = get_state(b, 24);
+    let h = ghash::from_block(words::load(b, 144));
+    let pad = words::load(b, 160);
+    let current = words::load(b, 176);
+    let held = suspended::get_held(b, 192);
     Session {
         phase: phase,
         ad: ad,
@@ -222,7 +259,7 @@ fn load_session(b: &[u8]) -> Session
 
 // ---- sealing by pieces
 
-// Begins a session, in the front 216 bytes of the buffer. Refused: 1, 2, 4.
+// Begins a session, in the front 224 bytes of the buffer. Refused: 1, 2, 4.
 #[no_mangle]
 pub extern "C" fn tulvekas_begin(key: &[u8], iv: &[u8], session: &mut [u8]) -> u64
     ensures answer { λ r. ⌜ r ≡ begin-answer (now (key .entry)) (now (iv .entry)) (now (session .entry)) ⌝ }
@@ -241,7 +278,7 @@ pub extern "C" fn tulvekas_begin(key: &[u8], iv: &[u8], session: &mut [u8]) -> u
     scope::ACCEPTED
 }
 
-// Takes a piece of associated data. Refused: 8 for a session that is not 216 bytes, 7, 3.
+// Takes a piece of associated data. Refused: 8 for a session that is not 224 bytes, 7, 3.
 #[no_mangle]
 pub extern "C" fn tulvekas_data(session: &mut [u8], piece: &[u8]) -> u64
     ensures answer { λ r. ⌜ r ≡ data-answer (now (session .entry)) (now (piece .entry)) ⌝ }
@@ -260,7 +297,7 @@ pub extern "C" fn tulvekas_data(session: &mut [u8], piece: &[u8]) -> u64
     scope::ACCEPTED
 }
 
-// Takes a piece of text and writes as many bytes of ciphertext. Refused: 8 for a session that is not 216 bytes, 7, 3, 4.
+// Takes a piece of text and writes as many bytes of ciphertext. Refused: 8 for a session that is not 224 bytes, 7, 3, 9, 4.
 #[no_mangle]
 pub extern "C" fn tulvekas_text(session: &mut [u8], piece: &[u8], out: &mut [u8]) -> u64
     ensures answer { λ r. ⌜ r ≡ text-answer (now (session .entry)) (now (piece .entry)) (now (out .entry)) ⌝ }
@@ -280,7 +317,7 @@ pub extern "C" fn tulvekas_text(session: &mut [u8], piece: &[u8], out: &mut [u8]
     scope::ACCEPTED
 }
 
-// Ends a session and gives its tag. Refused: 8 for a session that is not 216 bytes, 7, 4.
+// Ends a session and gives its tag. Refused: 8 for a session that is not 224 bytes, 7, 4.
 #[no_mangle]
 pub extern "C" fn tulvekas_finish(session: &mut [u8], tag: &mut [u8]) -> u64
     ensures answer { λ r. ⌜ r ≡ finish-answer (now (session .entry)) (now (tag .entry)) ⌝ }
@@ -307,7 +344,7 @@ pub extern "C" fn tulvekas_finish(session: &mut [u8], tag: &mut [u8]) -> u64
 
 // ---- suspend and resume: document 01's park and take up
 
-// Writes a session's block of 512 bytes; the session is only read. Refused: 8 for a session that is not 216 bytes, 7, 4.
+// Writes a session's block of 512 bytes; the session is only read. Refused: 8 for a session that is not 224 bytes, 7, 4.
 #[no_mangle]
 pub extern "C" fn tulvekas_suspend(session: &[u8], block: &mut [u8]) -> u64
     ensures answer { λ r. ⌜ r ≡ suspend-answer (now (session .entry)) (now (block .entry)) ⌝ }
@@ -378,7 +415,66 @@ pub extern "C" fn tulvekas_keystream(key: &[u8], iv: &[u8], sealed: u64, out: &m
     let rounds = wide_round::table();
     let t = start::start_with(key, iv, mode_named(sealed), &rounds);
     let s = t.state;
-    lanes::run_forward(s, &rounds, out, blocks);
+    let registers = s.registers;
+    lanes::run_forward(registers, &rounds, out, blocks);
+    scope::ACCEPTED
+}
+
+// Starts: the state, its count 0, in the front 120 bytes of the buffer. The mode is 0 for plain, else sealed. Refused: 1, 2, 4.
+#[no_mangle]
+pub extern "C" fn tulvekas_start(key: &[u8], iv: &[u8], sealed: u64, state: &mut [u8]) -> u64
+    ensures answer { λ r. ⌜ r ≡ start-answer (now (key .entry)) (now (iv .entry)) (now (state .entry)) ⌝ }
+    ensures state { λ _. ⌜ start-leaves (now (key .entry)) (now (iv .entry)) sealed (now (state .entry)) (now (state .exit)) ⌝ }
+{
+    let n = start::lengths(key, iv);
+    if n != 0 {
+        return n;
+    }
+    if state.len() < STATE_BYTES {
+        return scope::SHORT_OUTPUT;
+    }
+    let t = start::start(key, iv, mode_named(sealed));
+    let s = t.state;
+    store_state(state, s);
+    scope::ACCEPTED
+}
+
+// Runs a state n blocks on, or back unless `back` is 0: their blocks go to the front of the output in the order made. Refused: 8 for a state that is not
+// 120 bytes, 9, 15, 4.
+#[no_mangle]
+pub extern "C" fn tulvekas_run(state: &mut [u8], n: u64, back: u64, out: &mut [u8]) -> u64
+    ensures answer { λ r. ⌜ r ≡ run-answer (now (state .entry)) n back (now (out .entry)) ⌝ }
+    ensures state { λ _. ⌜ run-leaves (now (state .entry)) n back (now (out .entry)) (now (state .exit)) ⌝ }
+    ensures out { λ _. ⌜ now (out .exit) ≡ run-writes (now (state .entry)) n back (now (out .entry)) ⌝ }
+{
+    if state.len() != STATE_BYTES {
+        return scope::BAD_BLOCK;
+    }
+    let s = get_state(state, 0);
+    let mut answer: u64 = 0;
+    let t = cipher::run_core(s, &mut answer, out, n as usize, back != 0);
+    if answer != 0 {
+        return answer;
+    }
+    let u = t.state;
+    store_state(state, u);
+    scope::ACCEPTED
+}
+
+// The state of a suspended block, with its count, in the front 120 bytes of the buffer. Refused: 8 for a block that breaks a layout rule, 4.
+#[no_mangle]
+pub extern "C" fn tulvekas_state_of(block: &[u8], state: &mut [u8]) -> u64
+    ensures answer { λ r. ⌜ r ≡ state-of-answer (now (block .entry)) (now (state .entry)) ⌝ }
+    ensures state { λ _. ⌜ state-of-leaves (now (block .entry)) (now (state .entry)) (now (state .exit)) ⌝ }
+{
+    if !layout::well_laid(block) {
+        return scope::BAD_BLOCK;
+    }
+    if state.len() < STATE_BYTES {
+        return scope::SHORT_OUTPUT;
+    }
+    let k = suspended::read(block);
+    store_state(state, suspend::state_of(k));
     scope::ACCEPTED
 }
 
@@ -391,19 +487,13 @@ fn mode_number(mode: Mode) -> u8
     }
 }
 
-// Document 01's trace: the IV, and one byte that becomes 0 for plain mode and 1 for sealed. The state is bytes 16 to 127 of a suspended block.
-// Refused: 1, 8 for a state that is not 112 bytes, 9, 6, 4 for either buffer.
+// Document 01's trace, from a state at its own count: the IV, and one byte that becomes 0 for plain mode and 1 for sealed. Refused: 1, 8 for a state that
+// is not 120 bytes, 9, 6, 4 for either buffer.
 #[no_mangle]
-pub extern "C" fn tulvekas_trace(
-    state: &[u8],
-    key: &[u8],
-    count: u64,
-    iv: &mut [u8],
-    sealed: &mut [u8],
-) -> u64
-    ensures answer { λ r. ⌜ r ≡ trace-answer (trace-of-bytes (now (state .entry)) (now (key .entry)) count) (now (iv .entry)) (now (sealed .entry)) ⌝ }
-    ensures iv { λ _. ⌜ now (iv .exit) ≡ trace-iv (trace-of-bytes (now (state .entry)) (now (key .entry)) count) (now (iv .entry)) (now (sealed .entry)) ⌝ }
-    ensures sealed { λ _. ⌜ now (sealed .exit) ≡ trace-sealed (trace-of-bytes (now (state .entry)) (now (key .entry)) count) (now (iv .entry)) (now (sealed .entry)) ⌝ }
+pub extern "C" fn tulvekas_trace(state: &[u8], key: &[u8], iv: &mut [u8], sealed: &mut [u8]) -> u64
+    ensures answer { λ r. ⌜ r ≡ trace-answer (trace-of-bytes (now (state .entry)) (now (key .entry))) (now (iv .entry)) (now (sealed .entry)) ⌝ }
+    ensures iv { λ _. ⌜ now (iv .exit) ≡ trace-iv (trace-of-bytes (now (state .entry)) (now (key .entry))) (now (iv .entry)) (now (sealed .entry)) ⌝ }
+    ensures sealed { λ _. ⌜ now (sealed .exit) ≡ trace-sealed (trace-of-bytes (now (state .entry)) (now (key .entry))) (now (iv .entry)) (now (sealed .entry)) ⌝ }
 {
     if key.len() != KEY_BYTES {
         return scope::KEY_LENGTH;
@@ -411,8 +501,8 @@ pub extern "C" fn tulvekas_trace(
     if state.len() != STATE_BYTES {
         return scope::BAD_BLOCK;
     }
-    let s = suspended::get_state(state, 0);
-    let t = start::trace(s, key, count);
+    let s = get_state(state, 0);
+    let t = start::trace(s, key);
     match t {
         Traced::Refused(n) => n,
         Traced::Found(o) => {

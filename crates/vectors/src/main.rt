@@ -1,5 +1,6 @@
-// Runs the paper's three SNOW-V keystream vectors, and document 01's cases of the greatest count of blocks, and writes what agrees. The file
+// Runs the paper's three SNOW-V keystream vectors, and the documents' cases of the greatest count of blocks, and writes what agrees. The file
 // `stdout` has what it must write.
+mod call;
 mod far_end;
 mod keystream;
 mod lent;

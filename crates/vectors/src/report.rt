@@ -13,6 +13,11 @@ pub fn number(n: u64) {
     io::print_decimal(STDOUT_FILENO, n);
 }
 
+pub fn labelled(t: &[u8], n: u64) {
+    text(t);
+    number(n);
+}
+
 // The low byte of a word.
 fn byte(w: u32) {
     io::print_hex(STDOUT_FILENO, (w % 0x100) as u64, 2);
@@ -45,9 +50,8 @@ pub fn mode(m: Mode) {
     }
 }
 
-fn refused(n: u64) {
-    text(b"refused ");
-    number(n);
+pub fn refused(n: u64) {
+    labelled(b"refused ", n);
 }
 
 // The number that a run answers with.

@@ -4,6 +4,8 @@ ghost use Prim.Native.Nat.{_*_, _≤_, _<_};
 ghost use lib.ListN.{length};
 use crate::lent;
 use crate::report;
+use cipher::Drawn;
+use cipher::Registers;
 use cipher::State;
 use cipher::Stepped;
 use start::Mode;
@@ -24,11 +26,9 @@ fn name(p: Part) {
 }
 
 fn difference(v: u64, p: Part, i: usize, got: Block, expected: Block) {
-    report::text(b"SNOW-V ");
-    report::number(v);
+    report::labelled(b"SNOW-V ", v);
     name(p);
-    report::text(b", block ");
-    report::number(i as u64);
+    report::labelled(b", block ", i as u64);
     report::text(b": got ");
     report::block(got);
     report::text(b", expected ");
@@ -67,14 +67,25 @@ fn agreeing(v: u64, p: Part, got: &[u8], expected: &[u8], n: usize) -> u64
 }
 
 // The key's first half goes into R1 at the end of step 15 of a start.
-fn after_step(s: State, low: Block, step: usize) -> State {
+fn after_step(s: Registers, low: Block, step: usize) -> Registers {
     if step == 15 {
         return start::into_r1(s, low);
     }
     s
 }
 
-// The z of each of the 16 steps of a start in plain mode, from the states that the start's own loop leads to, one step at a time.
+// The z of a step forward from these registers, as at a start's count.
+fn first_block(s: Registers) -> Block {
+    let t = State {
+        registers: s,
+        count: 0,
+    };
+    let w = step(t, false);
+    let d = w.drawn;
+    block(d)
+}
+
+// The z of each of the 16 steps of a start in plain mode, from the registers that the start's own loop leads to, one step at a time.
 fn initialisation(key: [u8; 32], iv: [u8; 16]) -> [u8; 256] {
     let rounds = wide_round::table();
     let low = words::load(&key, 0);
@@ -83,9 +94,7 @@ fn initialisation(key: [u8; 32], iv: [u8; 16]) -> [u8; 256] {
     let mut s = start::load(low, high, words::load(&iv, 0), Mode::Plain);
     let mut i = 0;
     while i < 16 {
-        let w = step(s, false);
-        let z = w.z;
-        words::store(&mut out, 16 * i, block(z));
+        words::store(&mut out, 16 * i, first_block(s));
         i += 1;
         let u = after_step(start::initials(s, 1, &rounds), low, i);
         s = u;
@@ -93,10 +102,9 @@ fn initialisation(key: [u8; 32], iv: [u8; 16]) -> [u8; 256] {
     out
 }
 
-fn tally(agreed: u64, of: u64) {
+pub fn tally(agreed: u64, of: u64) {
     report::number(agreed);
-    report::text(b" of ");
-    report::number(of);
+    report::labelled(b" of ", of);
 }
 
 fn started(key: [u8; 32], iv: [u8; 16]) -> State {
@@ -115,15 +123,24 @@ fn run(s: State, out: &mut [u8], back: bool) -> State
 }
 
 // One step either way: forward the state is lent, back it goes by value.
-fn step(s: State, back: bool) -> Stepped {
+pub fn step(s: State, back: bool) -> Stepped {
     if back {
         return cipher::back_by_value(s);
     }
     lent::step(s)
 }
 
-fn block(z: [u8; 16]) -> Block {
-    words::load(&z, 0)
+// The block that a step answers with. For a refusal one that none of the blocks compared is.
+pub fn block(d: Drawn) -> Block {
+    match d {
+        Drawn::Z(z) => z,
+        Drawn::Refused(_) => Block {
+            w0: 1,
+            w1: 0,
+            w2: 0,
+            w3: 0,
+        },
+    }
 }
 
 // Eight blocks by single steps.
@@ -136,9 +153,9 @@ fn steps(s: State, out: &mut [u8], back: bool) -> State
     while i < 8 {
         let w = step(t, back);
         let u = w.state;
-        let z = w.z;
+        let d = w.drawn;
         t = u;
-        words::store(out, 16 * i, block(z));
+        words::store(out, 16 * i, block(d));
         i += 1;
     }
     t
@@ -182,18 +199,18 @@ pub fn vector(v: u64, key: [u8; 32], iv: [u8; 16], initial: [u8; 256], blocks: [
     let agreed = agreeing(v, Part::Initialisation, &got, &initial, 16);
     let r = keystream(v, key, iv, &blocks, false);
     let w = keystream(v, key, iv, &blocks, true);
-    report::text(b"SNOW-V ");
-    report::number(v);
+    report::labelled(b"SNOW-V ", v);
     report::text(b": ");
     tally(agreed, 16);
     report::text(b" initialisation blocks agree, ");
     tally(r.forward, 8);
-    report::text(b" keystream blocks agree\nSNOW-V ");
-    report::number(v);
+    report::labelled(b" keystream blocks agree\nSNOW-V ", v);
     report::text(b" back: ");
     tally(r.back, 8);
-    report::text(b" keystream blocks agree, in the opposite order\nSNOW-V ");
-    report::number(v);
+    report::labelled(
+        b" keystream blocks agree, in the opposite order\nSNOW-V ",
+        v,
+    );
     report::text(b" step by step: ");
     tally(w.forward, 8);
     report::text(b" keystream blocks agree, back ");

@@ -1,6 +1,6 @@
--- Tests that are computed: both of two that hold together, and whether two lists are the same.
+-- Tests that are computed: both of two that hold together, two of which neither holds, and whether two lists are the same.
 use mathlib.Core.Path.{_≡_, refl, sym, ap₂}
-use mathlib.Core.Bool.{Bool, true, false, _&&_}
+use mathlib.Core.Bool.{Bool, true, false, _&&_, _||_}
 use mathlib.Core.List.{List, [], _∷_}
 use Prim.Native.Nat.{ℕ}
 use borrow.Author.Tests.{eq-eqb, eqb-true}
@@ -14,6 +14,11 @@ and-left false b e = e
 pub and-right : (a b : Bool) → (a && b) ≡ true → b ≡ true
 and-right true b e = e
 and-right false b e = cc
+
+-- of two of which neither holds
+pub neither : (a b : Bool) → (a || b) ≡ false → (a ≡ false) × (b ≡ false)
+neither true b e = (e, cc)
+neither false b e = (refl, e)
 
 -- the same of tests that antt computes
 pub both-left : (a b : Bool) → T (a && b) → T a

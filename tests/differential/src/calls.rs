@@ -1,10 +1,8 @@
 //! The calls of include/tulvekas.h on slices: the documents' orders, and what C adds to them. A buffer that must be written and is too
 //! short gives 4 last; a session, block or state of another length than its own gives 8 where it is read.
-//!
-//! A C session is lent bytes whose contents are not documented. Here it is a [`Session`] beside the length of those bytes.
 
 use crate::block::Block;
-use crate::cipher::{iv as iv_of, run, Key, Mode, State, MOST_BLOCKS};
+use crate::cipher::{self, iv as iv_of, Direction, Key, Mode, State, MOST_BLOCKS};
 use crate::keeping;
 use crate::page;
 use crate::page_file;
@@ -14,9 +12,9 @@ use crate::suspended;
 use crate::trace;
 
 /// `TULVEKAS_SESSION_BYTES`.
-pub const SESSION_BYTES: usize = 216;
+pub const SESSION_BYTES: usize = 224;
 /// `TULVEKAS_STATE_BYTES`.
-pub const STATE_BYTES: usize = 112;
+pub const STATE_BYTES: usize = 120;
 /// `TULVEKAS_LENGTH_BYTES`.
 pub const LENGTH_BYTES: usize = 8;
 
@@ -27,9 +25,21 @@ fn room(out_len: usize, needed: usize) -> Answer<()> {
     require(out_len >= needed, Refusal::ShortOutput)
 }
 
-/// Refusal 8 where a session is read.
-fn whole_session(session_len: usize) -> Answer<()> {
-    require(session_len == SESSION_BYTES, Refusal::BadBlock)
+/// The session that is read. Refuses 8.
+fn session_in(session: &[u8]) -> Answer<Session> {
+    session.try_into().map(Session::from_bytes).map_err(|_| Refusal::BadBlock)
+}
+
+/// The state that is read. Refuses 8.
+fn state_in(state: &[u8]) -> Answer<State> {
+    state.try_into().map(State::from_bytes).map_err(|_| Refusal::BadBlock)
+}
+
+/// Writes a state to the front of a buffer. Refuses 4.
+fn put_state(state: &State, out: &mut [u8]) -> Answer<()> {
+    room(out.len(), STATE_BYTES)?;
+    out[..STATE_BYTES].copy_from_slice(&state.to_bytes());
+    Ok(())
 }
 
 /// `tulvekas_seal`: 1, 2, 3, 4.
@@ -48,48 +58,57 @@ pub fn open(key: &[u8], iv: &[u8], ad: &[u8], cipher: &[u8], tag: &[u8], out: &m
 }
 
 /// `tulvekas_begin`: 1, 2, 4.
-pub fn begin(key: &[u8], iv: &[u8], session_len: usize) -> Answer<Session> {
-    let session = Session::begin(key, iv)?;
-    room(session_len, SESSION_BYTES)?;
-    Ok(session)
+pub fn begin(key: &[u8], iv: &[u8], session: &mut [u8]) -> Answer<()> {
+    let begun = Session::begin(key, iv)?;
+    room(session.len(), SESSION_BYTES)?;
+    session[..SESSION_BYTES].copy_from_slice(&begun.to_bytes());
+    Ok(())
 }
 
 /// `tulvekas_data`: 8, 7, 3.
-pub fn data(session: &mut Session, session_len: usize, piece: &[u8]) -> Answer<()> {
-    whole_session(session_len)?;
-    session.data(piece)
+pub fn data(session: &mut [u8], piece: &[u8]) -> Answer<()> {
+    let mut moved = session_in(session)?;
+    moved.data(piece)?;
+    session.copy_from_slice(&moved.to_bytes());
+    Ok(())
 }
 
-/// `tulvekas_text`: 8, 7, 3, 4.
-pub fn text(session: &mut Session, session_len: usize, piece: &[u8], out: &mut [u8]) -> Answer<()> {
-    whole_session(session_len)?;
-    session.text(piece, out)
+/// `tulvekas_text`: 8, 7, 3, 9, 4.
+pub fn text(session: &mut [u8], piece: &[u8], out: &mut [u8]) -> Answer<()> {
+    let mut moved = session_in(session)?;
+    moved.text(piece, out)?;
+    session.copy_from_slice(&moved.to_bytes());
+    Ok(())
 }
 
 /// `tulvekas_finish`: 8, 7, 4.
-pub fn finish(session: &mut Session, session_len: usize, tag: &mut [u8]) -> Answer<()> {
-    whole_session(session_len)?;
-    let mut finished = session.clone();
+pub fn finish(session: &mut [u8], tag: &mut [u8]) -> Answer<()> {
+    let mut finished = session_in(session)?;
     let made = finished.finish()?;
     room(tag.len(), 16)?;
     tag[..16].copy_from_slice(&made);
-    *session = finished;
+    session.copy_from_slice(&finished.to_bytes());
     Ok(())
 }
 
 /// `tulvekas_suspend`: 8, 7, 4.
-pub fn suspend(session: &Session, session_len: usize, block: &mut [u8]) -> Answer<()> {
-    whole_session(session_len)?;
-    suspended::suspend(session, block)
+pub fn suspend(session: &[u8], block: &mut [u8]) -> Answer<()> {
+    suspended::suspend(&session_in(session)?, block)
 }
 
 /// `tulvekas_resume`: 1, 8, 6, 4.
-pub fn resume(key: &[u8], block: &[u8], session_len: usize, iv: &mut [u8]) -> Answer<Session> {
-    let (session, found) = suspended::resume(key, block)?;
-    room(session_len, SESSION_BYTES)?;
+pub fn resume(key: &[u8], block: &[u8], session: &mut [u8], iv: &mut [u8]) -> Answer<()> {
+    let (resumed, found) = suspended::resume(key, block)?;
+    room(session.len(), SESSION_BYTES)?;
     room(iv.len(), 16)?;
+    session[..SESSION_BYTES].copy_from_slice(&resumed.to_bytes());
     iv[..16].copy_from_slice(&found);
-    Ok(session)
+    Ok(())
+}
+
+/// `tulvekas_state_of`: 8, 4.
+pub fn state_of(block: &[u8], state: &mut [u8]) -> Answer<()> {
+    put_state(&suspended::state_of(block)?, state)
 }
 
 /// The mode that a number names: 0 plain, any other sealed.
@@ -101,20 +120,42 @@ pub fn mode(sealed: u64) -> Mode {
     }
 }
 
+/// The direction that a number names: 0 forward, any other back.
+pub fn direction(back: u64) -> Direction {
+    if back == 0 {
+        Direction::Forward
+    } else {
+        Direction::Back
+    }
+}
+
 /// `tulvekas_keystream`: 1, 2, 9.
 pub fn keystream(key: &[u8], iv: &[u8], sealed: u64, out: &mut [u8]) -> Answer<()> {
     let key = Key::new(key)?;
     let iv: Block = iv_of(iv)?;
     let blocks = out.len() as u64 / 16;
     require(blocks <= MOST_BLOCKS, Refusal::CountTooHigh)?;
-    run(&mut State::start(&key, &iv, mode(sealed)), blocks, out)
+    cipher::run(&mut State::start(&key, &iv, mode(sealed)), blocks, Direction::Forward, out)
+}
+
+/// `tulvekas_start`: 1, 2, 4.
+pub fn start(key: &[u8], iv: &[u8], sealed: u64, state: &mut [u8]) -> Answer<()> {
+    let key = Key::new(key)?;
+    let iv: Block = iv_of(iv)?;
+    put_state(&State::start(&key, &iv, mode(sealed)), state)
+}
+
+/// `tulvekas_run`: 8, 9, 15, 4.
+pub fn run(state: &mut [u8], n: u64, back: u64, out: &mut [u8]) -> Answer<()> {
+    let mut moved = state_in(state)?;
+    cipher::run(&mut moved, n, direction(back), out)?;
+    put_state(&moved, state)
 }
 
 /// `tulvekas_trace`: 1, 8, 9, 6, 4.
-pub fn trace(state: &[u8], key: &[u8], count: u64, iv: &mut [u8], sealed: &mut [u8]) -> Answer<()> {
+pub fn trace(state: &[u8], key: &[u8], iv: &mut [u8], sealed: &mut [u8]) -> Answer<()> {
     Key::new(key)?;
-    let state: &[u8; STATE_BYTES] = state.try_into().map_err(|_| Refusal::BadBlock)?;
-    let (found, mode) = trace::trace(&State::from_bytes(state), key, count)?;
+    let (found, mode) = trace::trace(&state_in(state)?, key)?;
     room(iv.len(), 16)?;
     room(sealed.len(), 1)?;
     iv[..16].copy_from_slice(&found);

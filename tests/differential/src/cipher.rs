@@ -1,12 +1,12 @@
 //! SNOW-V: the paper, section 2, equations 5 to 11, algorithms 1, 2 and 4, and the start values of section 4; document 01, "Round,
-//! step and step back" and "Start and trace".
+//! step and step back" and "Start and trace"; document 02, S-2.
 
 use crate::aes::{round, round_back};
 use crate::block::{cells, from_cells, minus, padded, plus, xor, Block};
 use crate::lfsr::{clock, clock_back, Register};
 use crate::refusal::{require, Refusal};
 
-/// The most blocks of keystream that may be drawn (document 01, refusal 9).
+/// The most blocks of keystream that may be drawn, and the highest count of a state (document 01, refusal 9).
 pub const MOST_BLOCKS: u64 = 65_538;
 
 /// What the low half of LFSR-B is loaded with.
@@ -49,9 +49,9 @@ pub fn iv(bytes: &[u8]) -> Result<Block, Refusal> {
     Ok(padded(bytes))
 }
 
-/// A cipher state (document 01, "Start and trace"): the contents of A, B, R1, R2 and R3.
+/// Document 01's cipher state ("Start and trace"): the contents of A, B, R1, R2 and R3.
 #[derive(Clone, Debug, PartialEq, Eq, Hash)]
-pub struct State {
+pub struct Registers {
     /// LFSR-A.
     pub a: Register,
     /// LFSR-B.
@@ -79,7 +79,7 @@ fn sigma_back(x: &Block) -> Block {
     y
 }
 
-impl State {
+impl Registers {
     /// The tap T1, equation 5.
     fn t1(&self) -> Block {
         from_cells(&self.b[8..])
@@ -113,7 +113,7 @@ impl State {
         z
     }
 
-    /// Undoes [`State::step`] and gives that step's z (document 01, "Stepping back").
+    /// Undoes [`Registers::step`] and gives that step's z (document 01, "Stepping back").
     ///
     /// R3 is found last, since T2 of equation 8 is that of the registers before the eight clocks.
     pub fn step_back(&mut self) -> Block {
@@ -128,13 +128,13 @@ impl State {
     }
 
     /// Algorithm 1, lines 2 to 6, and equation 12.
-    pub fn load(key: &Key, iv: &Block, mode: Mode) -> State {
-        let mut state = State { a: [0; 16], b: [0; 16], r1: [0; 16], r2: [0; 16], r3: [0; 16] };
-        state.a[8..].copy_from_slice(&cells(&key.low));
-        state.a[..8].copy_from_slice(&cells(iv));
-        state.b[8..].copy_from_slice(&cells(&key.high));
-        state.b[..8].copy_from_slice(&mode.low_b());
-        state
+    pub fn load(key: &Key, iv: &Block, mode: Mode) -> Registers {
+        let mut registers = Registers { a: [0; 16], b: [0; 16], r1: [0; 16], r2: [0; 16], r3: [0; 16] };
+        registers.a[8..].copy_from_slice(&cells(&key.low));
+        registers.a[..8].copy_from_slice(&cells(iv));
+        registers.b[8..].copy_from_slice(&cells(&key.high));
+        registers.b[..8].copy_from_slice(&mode.low_b());
+        registers
     }
 
     /// Xors a block into a8 to a15, as algorithm 1, line 12, does.
@@ -161,7 +161,7 @@ impl State {
         z
     }
 
-    /// Undoes [`State::start_step`].
+    /// Undoes [`Registers::start_step`].
     ///
     /// The step's z has to be known before the clocks can be undone. Its R1 and R2 follow from R2 and R3 of after, and its T1, the old
     /// b8 to b15, has moved to b0 to b7.
@@ -173,21 +173,21 @@ impl State {
     }
 
     /// Algorithm 1 (document 01, "start").
-    pub fn start(key: &Key, iv: &Block, mode: Mode) -> State {
-        let mut state = State::load(key, iv, mode);
+    pub fn start(key: &Key, iv: &Block, mode: Mode) -> Registers {
+        let mut registers = Registers::load(key, iv, mode);
         for t in 1..=16 {
-            state.start_step(key, t);
+            registers.start_step(key, t);
         }
-        state
+        registers
     }
 
-    /// The IV and mode whose start under the key is this state, if there are any.
+    /// The IV and mode whose start under the key leads to these registers, if there are any.
     pub fn start_back(mut self, key: &Key) -> Option<(Block, Mode)> {
         for t in (1..=16).rev() {
             self.start_step_back(key, t);
         }
         let iv = from_cells(&self.a[..8]);
-        [Mode::Plain, Mode::Sealed].into_iter().find(|mode| self == State::load(key, &iv, *mode)).map(|mode| (iv, mode))
+        [Mode::Plain, Mode::Sealed].into_iter().find(|mode| self == Registers::load(key, &iv, *mode)).map(|mode| (iv, mode))
     }
 
     /// The 112 bytes that a suspended block has at 16 to 127 (document 01, "Sessions and parking").
@@ -202,20 +202,89 @@ impl State {
         bytes
     }
 
-    /// The state of 112 such bytes.
-    pub fn from_bytes(bytes: &[u8; 112]) -> State {
+    /// The registers of 112 such bytes.
+    pub fn from_bytes(bytes: &[u8; 112]) -> Registers {
         let cell = |i: usize| u16::from_le_bytes([bytes[2 * i], bytes[2 * i + 1]]);
         let register = |i: usize| padded(&bytes[64 + 16 * i..80 + 16 * i]);
-        State { a: std::array::from_fn(cell), b: std::array::from_fn(|i| cell(16 + i)), r1: register(0), r2: register(1), r3: register(2) }
+        let (a, b) = (std::array::from_fn(cell), std::array::from_fn(|i| cell(16 + i)));
+        Registers { a, b, r1: register(0), r2: register(1), r3: register(2) }
     }
 }
 
-/// Writes the blocks of `n` steps in the order made (document 01: running forward). Refuses 9, 4.
-pub fn run(state: &mut State, n: u64, out: &mut [u8]) -> Result<(), Refusal> {
-    require(n <= MOST_BLOCKS, Refusal::CountTooHigh)?;
+/// A state that knows how far it has come (document 02, S-2): the registers, and how many blocks lie between them and a start.
+#[derive(Clone, Debug, PartialEq, Eq, Hash)]
+pub struct State {
+    /// The cipher state of document 01.
+    pub registers: Registers,
+    /// 0 at a start; a step forward adds one, a step back takes one.
+    pub count: u64,
+}
+
+impl State {
+    /// Right behind a start.
+    pub fn start(key: &Key, iv: &Block, mode: Mode) -> State {
+        State { registers: Registers::start(key, iv, mode), count: 0 }
+    }
+
+    /// One block forward. Refuses 9.
+    pub fn step(&mut self) -> Result<Block, Refusal> {
+        require(self.count < MOST_BLOCKS, Refusal::CountTooHigh)?;
+        self.count += 1;
+        Ok(self.registers.step())
+    }
+
+    /// One block back. Refuses 9, 15.
+    pub fn step_back(&mut self) -> Result<Block, Refusal> {
+        require(self.count <= MOST_BLOCKS, Refusal::CountTooHigh)?;
+        require(self.count > 0, Refusal::BeforeStart)?;
+        self.count -= 1;
+        Ok(self.registers.step_back())
+    }
+
+    /// The registers' 112 bytes, and the count in 8, low byte first.
+    pub fn to_bytes(&self) -> [u8; 120] {
+        let mut bytes = [0; 120];
+        bytes[..112].copy_from_slice(&self.registers.to_bytes());
+        bytes[112..].copy_from_slice(&self.count.to_le_bytes());
+        bytes
+    }
+
+    /// The state of 120 such bytes, whatever its count.
+    pub fn from_bytes(bytes: &[u8; 120]) -> State {
+        let registers = Registers::from_bytes(bytes[..112].try_into().unwrap());
+        State { registers, count: u64::from_le_bytes(bytes[112..].try_into().unwrap()) }
+    }
+}
+
+/// Where a run goes.
+#[derive(Clone, Copy, Debug, PartialEq, Eq)]
+pub enum Direction {
+    /// By [`State::step`].
+    Forward,
+    /// By [`State::step_back`].
+    Back,
+}
+
+/// Refuses what a run of `n` steps refuses whatever its output: 9 for a count or an `n` over the most, and where a step forward would
+/// be refused; 15 where a step back would be.
+fn require_steps(count: u64, n: u64, direction: Direction) -> Result<(), Refusal> {
+    require(count <= MOST_BLOCKS && n <= MOST_BLOCKS, Refusal::CountTooHigh)?;
+    match direction {
+        Direction::Forward => require(n <= MOST_BLOCKS - count, Refusal::CountTooHigh),
+        Direction::Back => require(n <= count, Refusal::BeforeStart),
+    }
+}
+
+/// Writes the blocks of `n` steps in the order made (document 01: running forward and back). Refuses 9, 15, 4, before it writes or moves.
+pub fn run(state: &mut State, n: u64, direction: Direction, out: &mut [u8]) -> Result<(), Refusal> {
+    require_steps(state.count, n, direction)?;
     require(out.len() as u64 >= 16 * n, Refusal::ShortOutput)?;
     for block in out.chunks_exact_mut(16).take(n as usize) {
-        block.copy_from_slice(&state.step());
+        let z = match direction {
+            Direction::Forward => state.step(),
+            Direction::Back => state.step_back(),
+        };
+        block.copy_from_slice(&z?);
     }
     Ok(())
 }

@@ -1,10 +1,8 @@
-//! What a benchmark calls. Keys have 32 bytes, IVs and tags 16, stays 12, states 112 and suspended blocks 512; each call answers 0 or the
+//! What a benchmark calls. Keys have 32 bytes, IVs and tags 16, stays 12, states 120 and suspended blocks 512; each call answers 0 or the
 //! number of a refusal.
 
-use crate::calls::{self, mode};
-use crate::cipher::{run, Key, State};
-use crate::refusal::{number, Refusal};
-use crate::{page, page_file, suspended};
+use crate::refusal::number;
+use crate::{calls, page, page_file, suspended};
 use std::slice::{from_raw_parts, from_raw_parts_mut};
 
 /// A pointer with a length of 0 may be anything in C, not so in a slice.
@@ -24,19 +22,13 @@ unsafe fn written<'a>(bytes: *mut u8, len: usize) -> &'a mut [u8] {
     }
 }
 
-unsafe fn started(key: *const u8, iv: *const u8, sealed: u64) -> Result<State, Refusal> {
-    let key = Key::new(read(key, 32))?;
-    let iv = crate::cipher::iv(read(iv, 16))?;
-    Ok(State::start(&key, &iv, mode(sealed)))
-}
-
 /// The first blocks of keystream; refuses 9.
 ///
 /// # Safety
 /// `out` points to 16 bytes for each block.
 #[no_mangle]
 pub unsafe extern "C" fn reference_keystream(key: *const u8, iv: *const u8, sealed: u64, out: *mut u8, blocks: usize) -> u64 {
-    number(&started(key, iv, sealed).and_then(|mut state| run(&mut state, blocks as u64, written(out, 16 * blocks))))
+    number(&calls::keystream(read(key, 32), read(iv, 16), sealed, written(out, 16 * blocks)))
 }
 
 /// Seals a page; refuses 3.
@@ -79,22 +71,22 @@ pub unsafe extern "C" fn reference_open(
     number(&page::open(read(key, 32), read(iv, 16), read(ad, ad_len), cipher, tag, out))
 }
 
-/// The state right after the start, as a suspended block lists it.
+/// The state right after the start.
 ///
 /// # Safety
-/// `state` points to 112 bytes.
+/// `state` points to 120 bytes.
 #[no_mangle]
 pub unsafe extern "C" fn reference_start(key: *const u8, iv: *const u8, sealed: u64, state: *mut u8) -> u64 {
-    number(&started(key, iv, sealed).map(|made| written(state, 112).copy_from_slice(&made.to_bytes())))
+    number(&calls::start(read(key, 32), read(iv, 16), sealed, written(state, 120)))
 }
 
-/// The IV and mode that lead to a state after `count` blocks; refuses 9, 6.
+/// The IV and mode that lead to a state; refuses 9, 6.
 ///
 /// # Safety
-/// `state` points to 112 bytes, `iv` to 16, `sealed` to one.
+/// `state` points to 120 bytes, `iv` to 16, `sealed` to one.
 #[no_mangle]
-pub unsafe extern "C" fn reference_trace(state: *const u8, key: *const u8, count: u64, iv: *mut u8, sealed: *mut u8) -> u64 {
-    number(&calls::trace(read(state, 112), read(key, 32), count, written(iv, 16), written(sealed, 1)))
+pub unsafe extern "C" fn reference_trace(state: *const u8, key: *const u8, iv: *mut u8, sealed: *mut u8) -> u64 {
+    number(&calls::trace(read(state, 120), read(key, 32), written(iv, 16), written(sealed, 1)))
 }
 
 /// Resumes a suspended session and gives its IV; refuses 8, 6.

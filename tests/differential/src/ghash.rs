@@ -28,10 +28,10 @@ pub fn update_padded(h: &Block, y: &Block, bytes: &[u8]) -> Block {
     bytes.chunks(16).fold(*y, |y, block| update(h, &y, &padded(block)))
 }
 
-/// The last block hashed: both lengths in bits, 64 bits each, high byte first.
+/// The last block hashed: both lengths in bits, 64 bits each, high byte first; of a length that a caller made up, the low 64 bits.
 pub fn lengths(data: u64, text: u64) -> Block {
     let mut block = [0; 16];
-    block[..8].copy_from_slice(&(8 * data).to_be_bytes());
-    block[8..].copy_from_slice(&(8 * text).to_be_bytes());
+    block[..8].copy_from_slice(&data.wrapping_mul(8).to_be_bytes());
+    block[8..].copy_from_slice(&text.wrapping_mul(8).to_be_bytes());
     block
 }

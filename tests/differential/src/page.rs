@@ -2,7 +2,7 @@
 //! keeping, program". Written for itself and not by way of sessions, so that the two check each other.
 
 use crate::block::{xor, Block};
-use crate::cipher::{iv, Key, Mode, State};
+use crate::cipher::{iv, Key, Mode, Registers};
 use crate::ghash::{lengths, update, update_padded};
 use crate::refusal::{require, Refusal};
 
@@ -11,10 +11,10 @@ pub const MOST_DATA: u64 = 65_535;
 /// The most bytes of text (document 01, refusal 3).
 pub const MOST_TEXT: u64 = 1_048_576;
 
-/// Xors text with the keystream from the state's next block on.
-fn xor_keystream(state: &mut State, text: &[u8], out: &mut [u8]) {
+/// Xors text with the keystream from the registers' next block on.
+fn xor_keystream(registers: &mut Registers, text: &[u8], out: &mut [u8]) {
     for (text, out) in text.chunks(16).zip(out.chunks_mut(16)) {
-        let z = state.step();
+        let z = registers.step();
         for i in 0..text.len() {
             out[i] = text[i] ^ z[i];
         }
@@ -40,11 +40,11 @@ pub fn seal(key: &[u8], iv_bytes: &[u8], ad: &[u8], text: &[u8], out: &mut [u8])
     let iv = iv(iv_bytes)?;
     require_lengths(ad, text)?;
     require(out.len() >= text.len(), Refusal::ShortOutput)?;
-    let mut state = State::start(&key, &iv, Mode::Sealed);
-    let h = state.step();
-    let end_pad = state.step();
+    let mut registers = Registers::start(&key, &iv, Mode::Sealed);
+    let h = registers.step();
+    let end_pad = registers.step();
     let cipher = &mut out[..text.len()];
-    xor_keystream(&mut state, text, cipher);
+    xor_keystream(&mut registers, text, cipher);
     Ok(tag(&h, &end_pad, ad, cipher))
 }
 
@@ -55,10 +55,10 @@ pub fn open(key: &[u8], iv_bytes: &[u8], ad: &[u8], cipher: &[u8], given: &[u8],
     require(given.len() == 16, Refusal::TagLength)?;
     require_lengths(ad, cipher)?;
     require(out.len() >= cipher.len(), Refusal::ShortOutput)?;
-    let mut state = State::start(&key, &iv, Mode::Sealed);
-    let h = state.step();
-    let end_pad = state.step();
+    let mut registers = Registers::start(&key, &iv, Mode::Sealed);
+    let h = registers.step();
+    let end_pad = registers.step();
     require(tag(&h, &end_pad, ad, cipher) == *given, Refusal::BadTag)?;
-    xor_keystream(&mut state, cipher, out);
+    xor_keystream(&mut registers, cipher, out);
     Ok(())
 }

@@ -20,7 +20,7 @@ pub enum Refusal {
     OutOfPhase = 7,
     /// "torn block": a suspended block breaks a layout rule.
     BadBlock = 8,
-    /// "too far": block count over 65,538.
+    /// "too far": block count over 65,538; a step, run or piece of text that would lead past it (S-2).
     CountTooHigh = 9,
     /// "cut seal": tag not 16 bytes.
     TagLength = 10,
@@ -32,6 +32,8 @@ pub enum Refusal {
     BadFile = 13,
     /// The stay named lacks the page named, or its pages do not run 0, 1, 2 in file order, or they hold different days (S-1).
     BadStay = 14,
+    /// A step or run back past the start, where the count is 0 (S-2).
+    BeforeStart = 15,
 }
 
 /// What a call answers: 0 if accepted, else the number of the refusal.

@@ -1,7 +1,9 @@
-//! A page by pieces: document 01, "Sessions and parking".
+//! A page by pieces: document 01, "Sessions and parking"; document 02, S-2.
+//!
+//! A session may be made up by a caller (see [`Session::from_bytes`]); its numbers are then taken as they stand.
 
-use crate::block::{xor, Block};
-use crate::cipher::{iv, Key, Mode, State};
+use crate::block::{padded, xor, Block};
+use crate::cipher::{iv, Key, Mode, State, MOST_BLOCKS};
 use crate::ghash::{lengths, update};
 use crate::page::{MOST_DATA, MOST_TEXT};
 use crate::refusal::{require, Refusal};
@@ -17,6 +19,11 @@ pub enum Phase {
     Finished,
 }
 
+/// The keystream blocks that so many bytes of text take.
+pub fn blocks(text: u64) -> u64 {
+    text.div_ceil(16)
+}
+
 /// A session. Two sessions that were given the same key, IV, data and text, however cut, are equal.
 #[derive(Clone, Debug, PartialEq, Eq, Hash)]
 pub struct Session {
@@ -25,7 +32,7 @@ pub struct Session {
     pub(crate) data: u64,
     /// Bytes of text so far.
     pub(crate) text: u64,
-    /// The cipher state, 2 + text / 16 rounded up blocks behind its start.
+    /// The state, whose count is 2 + [`blocks`] of the text.
     pub(crate) state: State,
     /// The hash of all whole blocks so far.
     pub(crate) hash: Block,
@@ -35,7 +42,7 @@ pub struct Session {
     pub(crate) h: Block,
     /// Block 1 of the keystream.
     pub(crate) end_pad: Block,
-    /// The keystream block of which a part is used; zeros where there is none.
+    /// The keystream block drawn last.
     pub(crate) current: Block,
 }
 
@@ -45,9 +52,9 @@ impl Session {
         let key = Key::new(key)?;
         let iv = iv(iv_bytes)?;
         let mut state = State::start(&key, &iv, Mode::Sealed);
-        let h = state.step();
-        let end_pad = state.step();
-        Ok(Session { phase: Phase::Data, data: 0, text: 0, state, hash: [0; 16], pending: [0; 16], h, end_pad, current: [0; 16] })
+        let h = state.step()?;
+        let end_pad = state.step()?;
+        Ok(Session { phase: Phase::Data, data: 0, text: 0, state, hash: [0; 16], pending: [0; 16], h, end_pad, current: end_pad })
     }
 
     /// What the session takes next.
@@ -55,7 +62,7 @@ impl Session {
         self.phase
     }
 
-    /// The cipher state (document 01, "Start and trace").
+    /// The state, with its count.
     pub fn state(&self) -> &State {
         &self.state
     }
@@ -89,12 +96,21 @@ impl Session {
         if !len.is_multiple_of(16) {
             self.hash_pending();
         }
+        self.pending = [0; 16];
+    }
+
+    /// Closes the data, where that is not done.
+    fn close(&mut self) {
+        if self.phase == Phase::Data {
+            self.pad(self.data);
+            self.phase = Phase::Text;
+        }
     }
 
     /// Takes a piece of associated data. Refuses 7, 3.
     pub fn data(&mut self, piece: &[u8]) -> Result<(), Refusal> {
         require(self.phase == Phase::Data, Refusal::OutOfPhase)?;
-        require(self.data + piece.len() as u64 <= MOST_DATA, Refusal::TooLong)?;
+        require(self.data <= MOST_DATA && piece.len() as u64 <= MOST_DATA - self.data, Refusal::TooLong)?;
         for byte in piece {
             self.absorb(*byte, self.data);
             self.data += 1;
@@ -102,38 +118,70 @@ impl Session {
         Ok(())
     }
 
-    /// Takes a piece of text and writes as many bytes of ciphertext. Refuses 7, 3, 4.
+    /// Takes a piece of text and writes as many bytes of ciphertext. Refuses 7, 3, 9, 4: 9 where the state's count lacks room for the
+    /// blocks that the piece draws, which no session that was begun comes to.
     pub fn text(&mut self, piece: &[u8], out: &mut [u8]) -> Result<(), Refusal> {
         require(self.phase != Phase::Finished, Refusal::OutOfPhase)?;
-        require(self.text + piece.len() as u64 <= MOST_TEXT, Refusal::TooLong)?;
+        require(self.text <= MOST_TEXT && piece.len() as u64 <= MOST_TEXT - self.text, Refusal::TooLong)?;
+        let drawn = blocks(self.text + piece.len() as u64) - blocks(self.text);
+        require(self.state.count <= MOST_BLOCKS && drawn <= MOST_BLOCKS - self.state.count, Refusal::CountTooHigh)?;
         require(out.len() >= piece.len(), Refusal::ShortOutput)?;
-        if self.phase == Phase::Data {
-            self.pad(self.data);
-            self.phase = Phase::Text;
-        }
+        self.close();
         for (text, out) in piece.iter().zip(out) {
             if self.text.is_multiple_of(16) {
-                self.current = self.state.step();
+                self.current = self.state.step()?;
             }
             *out = text ^ self.current[(self.text % 16) as usize];
             self.absorb(*out, self.text);
             self.text += 1;
         }
-        if self.text.is_multiple_of(16) {
-            self.current = [0; 16];
-        }
         Ok(())
     }
 
-    /// Ends the session and gives the tag. Refuses 7.
+    /// Ends the session, of which all but the phase stays, and gives the tag. Refuses 7.
     pub fn finish(&mut self) -> Result<Block, Refusal> {
-        match self.phase {
-            Phase::Data => self.pad(self.data),
-            Phase::Text => self.pad(self.text),
-            Phase::Finished => return Err(Refusal::OutOfPhase),
-        }
-        self.hash = update(&self.h, &self.hash, &lengths(self.data, self.text));
+        require(self.phase != Phase::Finished, Refusal::OutOfPhase)?;
+        let mut last = self.clone();
+        last.close();
+        last.pad(last.text);
+        let hash = update(&last.h, &last.hash, &lengths(last.data, last.text));
         self.phase = Phase::Finished;
-        Ok(xor(&self.hash, &self.end_pad))
+        Ok(xor(&hash, &self.end_pad))
+    }
+
+    /// The session in 224 bytes, as C keeps it. The documents leave the form open; it is that of crates/tulvekas/specs/SessionBytes.antt:
+    /// 0-7 phase, 8-15 data length, 16-23 text length, 24-143 the state, 144-159 H, 160-175 end pad, 176-191 the keystream block drawn
+    /// last, 192-207 the hash so far, 208-223 the bytes not yet hashed.
+    pub fn to_bytes(&self) -> [u8; 224] {
+        let phase: u64 = match self.phase {
+            Phase::Data => 0,
+            Phase::Text => 1,
+            Phase::Finished => 2,
+        };
+        let numbers = [phase, self.data, self.text].map(u64::to_le_bytes);
+        let drawn = [self.h, self.end_pad, self.current, self.hash, self.pending];
+        let bytes = [&numbers.concat()[..], &self.state.to_bytes(), &drawn.concat()].concat();
+        bytes.try_into().unwrap()
+    }
+
+    /// The session that 224 bytes say, whatever they are. Of the phase byte 0 alone is read; one from 2 on is finished.
+    pub fn from_bytes(bytes: &[u8; 224]) -> Session {
+        let number = |at: usize| u64::from_le_bytes(bytes[at..at + 8].try_into().unwrap());
+        let block = |at: usize| padded(&bytes[at..at + 16]);
+        Session {
+            phase: match bytes[0] {
+                0 => Phase::Data,
+                1 => Phase::Text,
+                _ => Phase::Finished,
+            },
+            data: number(8),
+            text: number(16),
+            state: State::from_bytes(bytes[24..144].try_into().unwrap()),
+            h: block(144),
+            end_pad: block(160),
+            current: block(176),
+            hash: block(192),
+            pending: block(208),
+        }
     }
 }

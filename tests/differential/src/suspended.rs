@@ -1,11 +1,12 @@
 //! Suspended sessions: document 01, "Sessions and parking", from "Park (7, 4) writes 512 bytes" on. `suspend` is its park, `resume` its
-//! take up, a suspended block its parked block, and the IV its stay number.
+//! take up, a suspended block its parked block, and the IV its stay number. Document 02, S-2: a block does not store its state's count, which
+//! follows from the text length.
 
 use crate::block::{padded, Block};
-use crate::cipher::{Key, Mode, State};
+use crate::cipher::{Key, Mode, Registers, State};
 use crate::page::{MOST_DATA, MOST_TEXT};
 use crate::refusal::{require, Refusal};
-use crate::session::{Phase, Session};
+use crate::session::{blocks, Phase, Session};
 
 /// Bytes of a suspended block.
 pub const SUSPENDED_BYTES: usize = 512;
@@ -32,7 +33,7 @@ pub fn suspend(session: &Session, out: &mut [u8]) -> Result<(), Refusal> {
     block[0] = phase;
     block[4..8].copy_from_slice(&(session.data as u32).to_le_bytes());
     block[8..12].copy_from_slice(&(session.text as u32).to_le_bytes());
-    block[16..128].copy_from_slice(&session.state.to_bytes());
+    block[16..128].copy_from_slice(&session.state.registers.to_bytes());
     block[128..144].copy_from_slice(&session.hash);
     block[144..160].copy_from_slice(&session.pending);
     let sum = check(&block);
@@ -57,38 +58,44 @@ fn well_laid(block: &[u8; SUSPENDED_BYTES]) -> bool {
         && word(block, 508) == check(block)
 }
 
+/// 512 bytes that keep the rules. Refuses 8.
+fn laid(block: &[u8]) -> Result<&[u8; SUSPENDED_BYTES], Refusal> {
+    let block = block.try_into().map_err(|_| Refusal::BadBlock)?;
+    require(well_laid(block), Refusal::BadBlock)?;
+    Ok(block)
+}
+
+/// The state of the session that was suspended, with its count: two blocks are drawn by begin, the others by the text. Refuses 8.
+pub fn state_of(block: &[u8]) -> Result<State, Refusal> {
+    let block = laid(block)?;
+    let registers = Registers::from_bytes(block[16..128].try_into().unwrap());
+    Ok(State { registers, count: 2 + blocks(u64::from(word(block, 8))) })
+}
+
 /// The session that was suspended, and its IV. Refuses 1, 8, 6.
 pub fn resume(key: &[u8], block: &[u8]) -> Result<(Session, Block), Refusal> {
     let key = Key::new(key)?;
-    let block: &[u8; SUSPENDED_BYTES] = block.try_into().map_err(|_| Refusal::BadBlock)?;
-    require(well_laid(block), Refusal::BadBlock)?;
-    let text = u64::from(word(block, 8));
-    let state = State::from_bytes(block[16..128].try_into().unwrap());
+    let block = laid(block)?;
+    let state = state_of(block)?;
 
     let mut walk = state.clone();
-    let mut current = [0; 16];
-    let blocks = text.div_ceil(16);
-    for i in 0..blocks {
-        let z = walk.step_back();
-        if i == 0 && text % 16 != 0 {
-            current = z;
-        }
+    let mut drawn = Vec::new();
+    while walk.count > 0 {
+        drawn.push(walk.step_back()?);
     }
-    let end_pad = walk.step_back();
-    let h = walk.step_back();
-    let (iv, mode) = walk.start_back(&key).ok_or(Refusal::NoOrigin)?;
+    let (iv, mode) = walk.registers.start_back(&key).ok_or(Refusal::NoOrigin)?;
     require(mode == Mode::Sealed, Refusal::NoOrigin)?;
 
     let session = Session {
         phase: if block[0] == 0 { Phase::Data } else { Phase::Text },
         data: u64::from(word(block, 4)),
-        text,
+        text: u64::from(word(block, 8)),
         state,
         hash: padded(&block[128..144]),
         pending: padded(&block[144..160]),
-        h,
-        end_pad,
-        current,
+        h: drawn[drawn.len() - 1],
+        end_pad: drawn[drawn.len() - 2],
+        current: drawn[0],
     };
     Ok((session, iv))
 }

@@ -1,13 +1,14 @@
-//! The reference alone against document 01's trial bookings and document 02's page file, and both directions of the cipher against each other.
+//! The reference alone against document 01's trial bookings, document 02's page file and counts, and both directions of the cipher against each
+//! other.
 
 use reference::block::plus;
-use reference::cipher::{run, Key, Mode, State, MOST_BLOCKS};
+use reference::cipher::{run, Direction, Key, Mode, Registers, State, MOST_BLOCKS};
 use reference::lfsr::{alpha, alpha_inverse, beta, beta_inverse, clock, clock_back};
 use reference::refusal::Refusal;
 use reference::session::Session;
-use reference::{aes, ghash, keeping, page, page_file};
+use reference::{aes, ghash, keeping, page, page_file, suspended, trace};
 
-const ZERO: State = State { a: [0; 16], b: [0; 16], r1: [0; 16], r2: [0; 16], r3: [0; 16] };
+const ZERO: Registers = Registers { a: [0; 16], b: [0; 16], r1: [0; 16], r2: [0; 16], r3: [0; 16] };
 
 #[test]
 fn cells() {
@@ -70,8 +71,8 @@ fn aes_round() {
 
 #[test]
 fn zero_state() {
-    let mut state = ZERO;
-    assert_eq!([state.step(), state.step(), state.step()], [[0; 16], [0x63; 16], [0xa5; 16]]);
+    let mut registers = ZERO;
+    assert_eq!([registers.step(), registers.step(), registers.step()], [[0; 16], [0x63; 16], [0xa5; 16]]);
 }
 
 #[test]
@@ -96,33 +97,33 @@ fn first_start_block_is_the_high_half_of_the_key() {
     let bytes: [u8; 32] = std::array::from_fn(|i| (37 * i + 11) as u8);
     let key = Key::new(&bytes).unwrap();
     for mode in [Mode::Plain, Mode::Sealed] {
-        assert_eq!(State::load(&key, &[0x5a; 16], mode).start_step(&key, 1)[..], bytes[16..]);
+        assert_eq!(Registers::load(&key, &[0x5a; 16], mode).start_step(&key, 1)[..], bytes[16..]);
     }
 }
 
 #[test]
 fn steps_undone() {
     let bytes: [u8; 112] = std::array::from_fn(|i| (i * i + 3 * i + 7) as u8);
-    let before = State::from_bytes(&bytes);
+    let before = Registers::from_bytes(&bytes);
     assert_eq!(before.to_bytes(), bytes);
-    let mut state = before.clone();
-    let forward: Vec<_> = (0..100).map(|_| state.step()).collect();
-    let mut back: Vec<_> = (0..100).map(|_| state.step_back()).collect();
+    let mut registers = before.clone();
+    let forward: Vec<_> = (0..100).map(|_| registers.step()).collect();
+    let mut back: Vec<_> = (0..100).map(|_| registers.step_back()).collect();
     back.reverse();
     assert_eq!(forward, back);
-    assert_eq!(state, before);
-    let mut back: Vec<_> = (0..100).map(|_| state.step_back()).collect();
+    assert_eq!(registers, before);
+    let mut back: Vec<_> = (0..100).map(|_| registers.step_back()).collect();
     back.reverse();
-    assert_eq!(back, (0..100).map(|_| state.step()).collect::<Vec<_>>());
-    assert_eq!(state, before);
+    assert_eq!(back, (0..100).map(|_| registers.step()).collect::<Vec<_>>());
+    assert_eq!(registers, before);
 }
 
 #[test]
 fn no_data_and_no_text() {
     let (key, iv) = ([7; 32], [9; 16]);
     let mut state = State::start(&Key::new(&key).unwrap(), &iv, Mode::Sealed);
-    state.step();
-    let end_pad = state.step();
+    state.step().unwrap();
+    let end_pad = state.step().unwrap();
     assert_eq!(page::seal(&key, &iv, &[], &[], &mut []), Ok(end_pad));
     assert_eq!(Session::begin(&key, &iv).unwrap().finish(), Ok(end_pad));
 }
@@ -136,11 +137,68 @@ fn limits() {
     assert_eq!(session.text(&text[..1], &mut out), Err(Refusal::TooLong));
     assert_eq!(page::seal(&[7; 32], &[9; 16], &[], &text, &mut out), Err(Refusal::TooLong));
 
-    let mut state = ZERO;
-    assert_eq!(run(&mut state, MOST_BLOCKS + 1, &mut vec![0; 16 * 65_539]), Err(Refusal::CountTooHigh));
-    assert_eq!(run(&mut state, MOST_BLOCKS, &mut vec![0; 16 * 65_538 - 1]), Err(Refusal::ShortOutput));
-    assert_eq!(state, ZERO);
-    assert_eq!(run(&mut state, MOST_BLOCKS, &mut vec![0; 16 * 65_538]), Ok(()));
+    let before = State { registers: ZERO, count: 0 };
+    let (mut state, mut out) = (before.clone(), vec![0; 16 * 65_539]);
+    assert_eq!(run(&mut state, MOST_BLOCKS + 1, Direction::Forward, &mut out), Err(Refusal::CountTooHigh));
+    assert_eq!(run(&mut state, MOST_BLOCKS, Direction::Forward, &mut out[..16 * 65_538 - 1]), Err(Refusal::ShortOutput));
+    assert_eq!(state, before);
+    assert_eq!(run(&mut state, MOST_BLOCKS, Direction::Forward, &mut out), Ok(()));
+}
+
+/// S-2's edges: 65,538 reached by steps and by runs, and the start reached again; each one further refused, and the state as it was.
+#[test]
+fn counts() {
+    let start = State::start(&Key::new(&[7; 32]).unwrap(), &[9; 16], Mode::Plain);
+    let mut state = start.clone();
+    assert_eq!(state.count, 0);
+    assert_eq!(state.step_back(), Err(Refusal::BeforeStart));
+    assert_eq!(run(&mut state, 1, Direction::Back, &mut []), Err(Refusal::BeforeStart));
+    assert_eq!(run(&mut state, 65_539, Direction::Back, &mut []), Err(Refusal::CountTooHigh));
+    assert_eq!(run(&mut state, 0, Direction::Back, &mut []), Ok(()));
+    assert_eq!(state, start);
+
+    let mut out = vec![0; 16 * 65_538];
+    run(&mut state, 65_537, Direction::Forward, &mut out).unwrap();
+    let mut by_run = state.clone();
+    run(&mut by_run, 1, Direction::Forward, &mut out).unwrap();
+    state.step().unwrap();
+    assert_eq!((by_run.count, &by_run), (65_538, &state));
+    assert_eq!(state.step(), Err(Refusal::CountTooHigh));
+    assert_eq!(run(&mut state, 1, Direction::Forward, &mut out), Err(Refusal::CountTooHigh));
+    assert_eq!(run(&mut state, 0, Direction::Forward, &mut []), Ok(()));
+    assert_eq!(state, by_run);
+    assert_eq!(trace::trace(&state, &[7; 32]), Ok(([9; 16], Mode::Plain)));
+    run(&mut state, 65_538, Direction::Back, &mut out).unwrap();
+    assert_eq!(state, start);
+
+    for count in [65_539, u64::MAX] {
+        let over = State { registers: start.registers.clone(), count };
+        let mut state = over.clone();
+        assert_eq!((state.step(), state.step_back()), (Err(Refusal::CountTooHigh), Err(Refusal::CountTooHigh)));
+        for direction in [Direction::Forward, Direction::Back] {
+            assert_eq!(run(&mut state, 0, direction, &mut []), Err(Refusal::CountTooHigh));
+        }
+        assert_eq!(trace::trace(&state, &[7; 32]), Err(Refusal::CountTooHigh));
+        assert_eq!(state, over);
+    }
+}
+
+/// A session's count is 2 + text / 16 rounded up, and its block's state has it; the bytes of a session say all of it.
+#[test]
+fn counts_of_sessions() {
+    for text_len in [0, 1, 15, 16, 17, 32, 33, 1_048_575, 1_048_576_usize] {
+        let mut session = Session::begin(&[7; 32], &[9; 16]).unwrap();
+        session.text(&vec![3; text_len], &mut vec![0; text_len]).unwrap();
+        assert_eq!(session.state().count, 2 + text_len.div_ceil(16) as u64);
+        assert_eq!(Session::from_bytes(&session.to_bytes()), session);
+        let mut block = [0; 512];
+        suspended::suspend(&session, &mut block).unwrap();
+        let state = suspended::state_of(&block).unwrap();
+        assert_eq!(&state, session.state());
+        assert_eq!(trace::trace(&state, &[7; 32]), Ok(([9; 16], Mode::Sealed)));
+        block[508] ^= 1;
+        assert_eq!(suspended::state_of(&block), Err(Refusal::BadBlock));
+    }
 }
 
 #[test]

@@ -1,10 +1,14 @@
 //! The examples in C and Python.
 
-use reference::page_file;
+use reference::block::Block;
+use reference::cipher::{run, Direction, Key, Mode, State};
+use reference::refusal::Refusal;
+use reference::session::Session;
+use reference::{page_file, suspended, trace};
 use std::path::Path;
 use std::process::Command;
 
-/// examples/run seals, suspends, resumes and opens a page in each language, and seals and opens pages of a file.
+/// examples/run seals, suspends, resumes and opens a page in each language, seals and opens pages of a file, and walks and traces states.
 #[test]
 fn examples() {
     let script = Path::new(env!("CARGO_MANIFEST_DIR")).join("../../examples/run");
@@ -12,10 +16,19 @@ fn examples() {
     assert!(status.success(), "{}: {status}", script.display());
 }
 
+/// The key of all examples.
+fn key() -> [u8; 32] {
+    std::array::from_fn(|i| if i < 16 { 0x50 + i as u8 } else { 16 * (i as u8 - 16) + 10 })
+}
+
+fn hex(bytes: &[u8]) -> String {
+    bytes.iter().map(|byte| format!("{byte:02x}")).collect()
+}
+
 /// The tags that the examples of a page file must print are the reference's.
 #[test]
 fn tags_of_the_page_file() {
-    let key: [u8; 32] = std::array::from_fn(|i| if i < 16 { 0x50 + i as u8 } else { 16 * (i as u8 - 16) + 10 });
+    let key = key();
     let mut file = [0; 4 * 512];
     let pages: [(&[u8], u32, u64, &[u8]); 3] = [
         (b"2026 no. 042", 0, 9_815, b"Mari Saar"),
@@ -27,7 +40,36 @@ fn tags_of_the_page_file() {
     }
     let expected = include_str!("../../../examples/page_file.stdout");
     for (place, page) in file.chunks(512).enumerate() {
-        let tag: String = page[496..].iter().map(|byte| format!("{byte:02x}")).collect();
+        let tag = hex(&page[496..]);
         assert!(expected.contains(&format!("tag at place {place}: {tag}\n")), "place {place}");
     }
+}
+
+/// What the examples of states must print is what the reference gives.
+#[test]
+fn output_of_the_states() {
+    let (key, iv) = (key(), 0x0123456789abcdeffedcba9876543210_u128.to_be_bytes());
+    let mut state = State::start(&Key::new(&key).unwrap(), &iv, Mode::Plain);
+    let forward: Vec<Block> = (0..3).map(|_| state.step().unwrap()).collect();
+    let after = state.count;
+    let back: Vec<Block> = (0..3).map(|_| state.step_back().unwrap()).collect();
+    let refused = |refusal: Refusal| format!("refused {}", refusal as u64);
+    let mut printed =
+        format!("forward: {}\ncount: {after}\nback: {}\ncount: {}\n", hex(&forward.concat()), hex(&back.concat()), state.count);
+    printed += &format!("a block before the start: {}\n", refused(state.step_back().unwrap_err()));
+
+    let (mut session, mut block) = (Session::begin(&key, &iv).unwrap(), [0; 512]);
+    session.text(&[0; 20], &mut [0; 20]).unwrap();
+    suspended::suspend(&session, &mut block).unwrap();
+    let mut state = suspended::state_of(&block).unwrap();
+    let (found, mode) = trace::trace(&state, &key).unwrap();
+    let mode = if mode == Mode::Sealed { "sealed" } else { "plain" };
+    printed += &format!("count: {}\nIV: {}\nmode: {mode}\n", state.count, hex(&found));
+    let mut other = key;
+    other[0] ^= 1;
+    printed += &format!("under another key: {}\n", refused(trace::trace(&state, &other).unwrap_err()));
+    state.count = 65_539;
+    printed += &format!("count: {}\ntrace: {}\n", state.count, refused(trace::trace(&state, &key).unwrap_err()));
+    printed += &format!("no block back: {}\n", refused(run(&mut state, 0, Direction::Back, &mut []).unwrap_err()));
+    assert_eq!(include_str!("../../../examples/states.stdout"), printed);
 }

@@ -15,22 +15,23 @@ const IV: [u8; 16] = [0xa5; 16];
 fn keystream_and_start() {
     for (sealed, mode) in [(0, Mode::Plain), (1, Mode::Sealed)] {
         let mut state = State::start(&Key::new(&KEY).unwrap(), &iv(&IV).unwrap(), mode);
-        let mut started = [0; 112];
+        let mut started = [0; 120];
         assert_eq!(unsafe { reference_start(KEY.as_ptr(), IV.as_ptr(), sealed, started.as_mut_ptr()) }, 0);
         assert_eq!(started, state.to_bytes());
 
         let mut out = [0; 16 * 20];
         assert_eq!(unsafe { reference_keystream(KEY.as_ptr(), IV.as_ptr(), sealed, out.as_mut_ptr(), 20) }, 0);
         for block in out.chunks(16) {
-            assert_eq!(block, state.step());
+            assert_eq!(block, state.step().unwrap());
         }
 
         let (mut found, mut found_mode) = ([0; 16], 9);
-        let bytes = state.to_bytes();
-        assert_eq!(unsafe { reference_trace(bytes.as_ptr(), KEY.as_ptr(), 20, found.as_mut_ptr(), &mut found_mode) }, 0);
+        let mut trace = |count| {
+            let bytes = State { count, ..state.clone() }.to_bytes();
+            unsafe { reference_trace(bytes.as_ptr(), KEY.as_ptr(), found.as_mut_ptr(), &mut found_mode) }
+        };
+        assert_eq!((trace(19), trace(65_539), trace(20)), (6, 9, 0));
         assert_eq!((found, u64::from(found_mode)), (IV, sealed));
-        assert_eq!(unsafe { reference_trace(bytes.as_ptr(), KEY.as_ptr(), 19, found.as_mut_ptr(), &mut found_mode) }, 6);
-        assert_eq!(unsafe { reference_trace(bytes.as_ptr(), KEY.as_ptr(), 65_539, found.as_mut_ptr(), &mut found_mode) }, 9);
     }
     assert_eq!(unsafe { reference_keystream(KEY.as_ptr(), IV.as_ptr(), 0, vec![0; 16 * 65_539].as_mut_ptr(), 65_539) }, 9);
 }

@@ -7,7 +7,11 @@ use std::collections::BTreeMap;
 
 const HEADER: &str = include_str!("../../../include/tulvekas.h");
 const DECLARATIONS: &str = include_str!("differential/library.rs");
-const EXAMPLES: [&str; 2] = [include_str!("../../../examples/seal_by_pieces.c"), include_str!("../../../examples/page_file.c")];
+const EXAMPLES: [&str; 3] = [
+    include_str!("../../../examples/seal_by_pieces.c"),
+    include_str!("../../../examples/page_file.c"),
+    include_str!("../../../examples/states.c"),
+];
 
 /// Each call with its parameters as Rust writes them.
 type Calls = BTreeMap<String, Vec<String>>;
@@ -48,7 +52,7 @@ fn from_c(text: &str) -> String {
 fn calls_are_declared_as_in_the_header() {
     let header = calls_of(&code(HEADER), "uint64_t tulvekas_", from_c);
     let declared = calls_of(DECLARATIONS, "pub fn tulvekas_", str::to_string);
-    assert_eq!(header.len(), 13);
+    assert_eq!(header.len(), 16);
     assert_eq!(declared, header);
 }
 
@@ -69,7 +73,6 @@ fn numbers_are_those_of_the_header() {
         ("SESSION_BYTES", calls::SESSION_BYTES as u64),
         ("SUSPENDED_BYTES", suspended::SUSPENDED_BYTES as u64),
         ("STATE_BYTES", calls::STATE_BYTES as u64),
-        ("STATE_AT", 16),
         ("PAGE_BYTES", page_file::PAGE_BYTES as u64),
         ("STAY_BYTES", page_file::STAY_BYTES as u64),
         ("LENGTH_BYTES", calls::LENGTH_BYTES as u64),
@@ -94,6 +97,7 @@ fn numbers_are_those_of_the_header() {
         ("DAY_RANGE", Refusal::DayRange as u64),
         ("BAD_FILE", Refusal::BadFile as u64),
         ("BAD_STAY", Refusal::BadStay as u64),
+        ("BEFORE_START", Refusal::BeforeStart as u64),
     ]);
     assert_eq!(defined, expected);
 }
@@ -109,7 +113,7 @@ fn shown_calls_are_those_of_the_examples() {
     let examples = EXAMPLES.map(words);
     let indented = HEADER.lines().filter_map(|line| line.strip_prefix(" *     "));
     let shown: Vec<_> = indented.filter(|line| line.starts_with("tulvekas_") && line.ends_with(')')).collect();
-    assert_eq!(shown.len(), 10);
+    assert_eq!(shown.len(), 15);
     for call in shown {
         assert!(examples.iter().any(|example| example.contains(call)), "{call}");
     }

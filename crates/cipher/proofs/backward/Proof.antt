@@ -3,7 +3,7 @@ use mathlib.Core.Path.{_∙_}
 use Rattle.cipher.specs.Run.{move, made}
 use Rattle.cipher.specs.Machine.{registersOf}
 use Rattle.cipher.proofs.Inverse.{z-before-is}
-use Rattle.cipher.proofs.Typed.{every-state}
+use Rattle.cipher.proofs.Typed.{every-registers}
 use borrow.Author.Needs.{needs}
 use Rattle.cipher.proofs.backward.Statement.{statement}
 use Rattle.cipher.proofs.backward.Tie as tie
@@ -14,8 +14,8 @@ returns c =
     let p = c .before .before in
     let start = p .before in
     record {
-      state = c .state-before .ensures;
-      z = p .z-before .ensures .z ∙ z-before-is (registersOf (start .args .s)) (every-state (start .args .s) _ (start .good .0));
+      registers = c .registers-before .ensures;
+      z = p .z-before .ensures .z ∙ z-before-is (registersOf (start .args .s)) (every-registers (start .args .s) _ (start .good .0));
     }
 
 pub backward-spec : {M : Type 1} → statement M

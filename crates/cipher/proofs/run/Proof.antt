@@ -44,9 +44,9 @@ use denote.Triple.Spec.{Meets, tripleOf}
 use denote.Triple.Table.{entered, cited}
 use denote.Triple.Walked.{Stays, stay-ref, gave-ref, stay-dropped, stay-none, walkOf, goes-ref, goes-gave-ref, goes-spent-slice, goes-none, onExit, Walks, ends-at, walked, walk-meets}
 use denote.Exit.{yes, no}
-use Rattle.cipher.specs.Registers.{Registers}
-use Rattle.cipher.specs.Run.{run-number, run-registers, run-part}
-use Rattle.cipher.specs.Machine.{registersOf}
+use Rattle.cipher.specs.State as definition
+use Rattle.cipher.specs.State.{run-number, run-state, run-part}
+use Rattle.cipher.specs.Machine.{stateOf}
 use Rattle.cipher.specs.Lent.{front-of}
 use Rattle.cipher.specs.declared.State.{State}
 use Rattle.cipher.specs.declared.Ran.{Ran}
@@ -108,15 +108,15 @@ module _ {M : Type 1} (𝓤 : URA M) (H : Heap 𝓤) (A : Atoms 𝓤) (W : Given
   abbrev Post : Val → SProp 𝓤
   Post = walkOf 𝓤 H A run′.ended stayed (run′.clauses 𝓤 H A at-mem run) .post bound
 
-  -- the registers after the run, the answer, what is written, and what stands behind it
-  abbrev registers : Registers
-  registers = run-registers back (registersOf h) (length xs) n
+  -- the state after the run, the answer, what is written, and what stands behind it
+  abbrev left : definition.State
+  left = run-state back (stateOf h) (length xs) n
 
   abbrev number : ℕ
-  number = run-number (length xs) n
+  number = run-number back (h .count) (length xs) n
 
   abbrev part : List ℕ
-  part = run-part back (registersOf h) (length xs) n
+  part = run-part back (stateOf h) (length xs) n
 
   abbrev rest : List ℕ
   rest = drop-list (length part) xs
@@ -163,7 +163,7 @@ module _ {M : Type 1} (𝓤 : URA M) (H : Heap 𝓤) (A : Atoms 𝓤) (W : Given
 
   -- the clauses of `ensures` at the last state g and the last answer w, and what the types own at exit
   abbrev Ensured : State → ℕ → GName → SProp 𝓤
-  Ensured g w γ′ = sep 𝓤 (fact 𝓤 (registersOf g ≡ registers)) (sep 𝓤 (fact 𝓤 (w ≡ number))
+  Ensured g w γ′ = sep 𝓤 (fact 𝓤 (stateOf g ≡ left)) (sep 𝓤 (fact 𝓤 (w ≡ number))
       (sep 𝓤 (fact 𝓤 ((_≡_ {A = ℕ × ℕ} (b₂, o₂) (b₂, o₂)) × (part ≡ part))) (Rest γ′)))
 
   abbrev OnExit : State → ℕ → GName → SProp 𝓤
@@ -175,7 +175,7 @@ module _ {M : Type 1} (𝓤 : URA M) (H : Heap 𝓤) (A : Atoms 𝓤) (W : Given
   Left g w γ′ = ‵ (fobs γ₀ (T.the-row .coded .code g)) ∷ ‵ (fbor κ₀ (Body (mem T.the-row) b₀ o₀ γ₀)) ∷ ‵ (flft κ₀ q₀) ∷ ‵ (Part γ′) ∷
       (‵ (flft κ₂ q₂) ⊛ raw (Rest γ′)) ∷ ‵ (flft κ₁ q₁) ∷ ‵ (fres γ₁ (u64 .coded .code w)) ∷ []
 
-  exits : (g : State) (w : ℕ) (γ′ : GName) (k : ℕ) → k ≡ length part → registersOf g ≡ registers → w ≡ number
+  exits : (g : State) (w : ℕ) (γ′ : GName) (k : ℕ) → k ≡ length part → stateOf g ≡ left → w ≡ number
       → ent 𝓤 (⋆ 𝓤 H A (Left g w γ′)) (Post (sliceVal (b₂, o₂) k))
   exits g w γ′ k ek eg ew =
       subst (λ (j : ℕ). ent 𝓤 (⋆ 𝓤 H A (Left g w γ′)) (Post (sliceVal (b₂, o₂) j))) (sym ek)
@@ -185,7 +185,7 @@ module _ {M : Type 1} (𝓤 : URA M) (H : Heap 𝓤) (A : Atoms 𝓤) (W : Given
       (g, (w, (tt, (tt, (tt, tt))))) (tt, (tt, (tt, (tt, (tt, tt))))))) $
       move ! (4 ∷ []) $ split ! $ move ! (1 ∷ []) $
       use0 W (raw (fact 𝓤 ((_≡_ {A = ℕ × ℕ} (b₂, o₂) (b₂, o₂)) × (part ≡ part)))) (factI 𝓤 _ (emp 𝓤) (refl, refl)) $ join ! $
-      use0 W (raw (fact 𝓤 (w ≡ number))) (factI 𝓤 _ (emp 𝓤) ew) $ join ! $ use0 W (raw (fact 𝓤 (registersOf g ≡ registers))) (factI 𝓤 _ (emp 𝓤) eg) $
+      use0 W (raw (fact 𝓤 (w ≡ number))) (factI 𝓤 _ (emp 𝓤) ew) $ join ! $ use0 W (raw (fact 𝓤 (stateOf g ≡ left))) (factI 𝓤 _ (emp 𝓤) eg) $
       join ! $ frame ! $
       -- [the output's token; obs; the borrow; the state's token; what the part owns; the answer's token; its last value]
       nothing ! $ move ! (1 ∷ 0 ∷ []) $ join ! $ move ! (5 ∷ 0 ∷ []) $ join ! $ move ! (3 ∷ 0 ∷ []) $ join ! $ frame ! $
@@ -242,9 +242,9 @@ module _ {M : Type 1} (𝓤 : URA M) (H : Heap 𝓤) (A : Atoms 𝓤) (W : Given
         -- what `run_core` ensures, at some last values
         split ! $ move ! (1 ∷ []) $ use1 W (some (λ (ws : Unit {0} × (ℕ × (List ℕ × (Unit {0} × (Unit {0} × Unit {0}))))).
         ‵ (lasts core.ended (κ₁, (ν ∷ [], tt)) (h, (answer, (out-at δ xs, (n, (back, tt))))) ws)
-        ⊛ raw (fact 𝓤 (registersOf (r .state) ≡ registers)) ⊛ raw (fact 𝓤 (r .wrote ≡ length part)) ⊛ raw (fact 𝓤 (ws .1 .0 ≡ number))
+        ⊛ raw (fact 𝓤 (stateOf (r .state) ≡ left)) ⊛ raw (fact 𝓤 (r .wrote ≡ length part)) ⊛ raw (fact 𝓤 (ws .1 .0 ≡ number))
         ⊛ raw (fact 𝓤 (ws .1 .1 .0 ≡ part ++ drop-list (r .wrote) xs)))) (id⊢ 𝓤 _) $ pick ! (λ ws.
-        split ! $ move ! (1 ∷ []) $ split ! $ heard ! (registersOf (r .state) ≡ registers) (λ e₁. split ! $
+        split ! $ move ! (1 ∷ []) $ split ! $ heard ! (stateOf (r .state) ≡ left) (λ e₁. split ! $
         heard ! (r .wrote ≡ length part) (λ e₂. split ! $ heard ! (ws .1 .0 ≡ number) (λ e₃. heard ! (ws .1 .1 .0 ≡ part ++ drop-list (r .wrote) xs) (λ e₄.
         fsplit ! $ drop ! $ fsplit ! $ move ! (1 ∷ []) $ fsplit ! $ fsplit ! $ move ! (1 ∷ []) $ feqL ! (λ l. move ! (1 ∷ []) $ drop ! $
         -- [the new slice's last list; the answer's last value; the tokens with the result; what is kept of the output; the state's cell; …]

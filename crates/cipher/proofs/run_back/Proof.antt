@@ -9,7 +9,7 @@ use Rattle.words.specs.Machine.{bytesOf}
 use Rattle.cipher.specs.Registers.{IsRegisters}
 use Rattle.cipher.specs.Run.{backward}
 use Rattle.cipher.specs.Machine.{registersOf}
-use Rattle.cipher.proofs.Typed.{every-state}
+use Rattle.cipher.proofs.Typed.{every-registers}
 use Rattle.cipher.proofs.Running.{Made, made-none, made-long, made-one, made-all}
 use Rattle.cipher.proofs.run_back.Statement.{statement}
 use Rattle.cipher.proofs.run_back.Tie as tie
@@ -21,7 +21,7 @@ abbrev μ-loop : tie.MeasureT-loop
 μ-loop out₀ n inverse t₀ i₀ out t i = n - i
 
 good : (c : tie.Start Inv-loop μ-loop) → IsRegisters (registersOf (c .args .s))
-good c = every-state (c .args .s) _ (c .good .0)
+good c = every-registers (c .args .s) _ (c .good .0)
 
 loop-holds : tie.Need-loop-holds Inv-loop μ-loop
 loop-holds c = let s = c .before .before in made-none backward (registersOf (s .args .s)) (good s) (now (s .args .out)) 0 (s .args .n)
@@ -42,7 +42,7 @@ loop-again c =
     let l = c .before .before .before .before .before .before .before .before .before .loop in
     let s = c .before .before .before .before .before .before .before .before .before .before .before .before in
     let e : 16 * l .i ≡ 0 + 16 * l .i = omega arith in
-    made-one backward (registersOf (s .args .s)) (good s) (now (s .args .out)) 0 (s .args .n) (l .i) (omega arith) (l .inv) (w .backward .ensures .state) (w .backward .ensures .z)
+    made-one backward (registersOf (s .args .s)) (good s) (now (s .args .out)) 0 (s .args .n) (l .i) (omega arith) (l .inv) (w .backward .ensures .registers) (w .backward .ensures .z)
     (c .before .before .store .ensures ∙ ap (λ (k : ℕ). sets (l .out) k (bytesOf (w .backward .result .z))) e)
 
 same-length : tie.Need-same-length Inv-loop μ-loop

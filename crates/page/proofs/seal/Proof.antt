@@ -98,12 +98,14 @@ text-with-requires c κs =
     let a = b .before .before .before .before .before .before .before .before .before .before .before .before .before .args in
     let e = told d in
     let n : d .data-with .result .text ≡ 0 = ap (λ (s : Session). s .text) e in
+    let m : d .data-with .result .state .count ≡ 2 = ap (λ (s : Session). s .state .count) e in
     let t = text-fits (b .before .before .before) in (
       record { ordered = omega arith; read = omega arith; room = room (b .before .before .before); counts = omega arith },
       record {
         of-rounds = b .before .before .table .ensures;
         of-h = lent (now (a .key)) (now (a .iv)) (taking-data []) (taking-data (now (a .ad))) (b .begin-with .result .session) (d .data-with .result) _ (begun b) e (d .before .before .fill .ensures);
       },
+      omega (arith, m, t),
     )
 
 tag-with-requires : tie.Need-tag-with-requires

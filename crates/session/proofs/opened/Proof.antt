@@ -10,7 +10,7 @@ use Rattle.words.proofs.Writing.{put-whole}
 use Rattle.cipher.specs.Step.{z}
 use Rattle.cipher.specs.Run.{forward, move, made, moves, blocks}
 use Rattle.cipher.specs.Machine.{registersOf}
-use Rattle.cipher.proofs.Typed.{every-state}
+use Rattle.cipher.proofs.Typed.{every-registers}
 use Rattle.cipher.proofs.Inverse.{z-block}
 use Rattle.cipher.proofs.Moves.{move-good, blocks-one, blocks-more, blocks-length}
 use Rattle.digest.specs.Sum.{fresh}
@@ -23,7 +23,7 @@ unfolding made moves
 returns c =
     let s = c .before .before .before .before .before .before .before .before .before .before in
     let S = registersOf (s .args .s) in
-    let g = every-state (s .args .s) _ (s .good .0) in
+    let g = every-registers (s .args .s) _ (s .good .0) in
     let w = c .before .before .before .before .before .before .before .before .batch in
     let two : w .last .1 .1 .0 ≡ z S ++ z (move forward S) =
     w .ensures .1 ∙ put-whole (replicate 32 0) (blocks forward 2 S) (blocks-length forward 2 S g)
@@ -36,7 +36,7 @@ returns c =
       phase = 0;
       ad = 0;
       text = 0;
-      registers = w .ensures .0 i;
+      state = record { registers = w .ensures .0 i; count = 2 };
       h = (c .before .before .from-block .ensures ∙ h) i;
       pad = pad i;
       current = pad i;

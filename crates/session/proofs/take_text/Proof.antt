@@ -4,7 +4,7 @@ use native.Mathlib.Omega.{arith}
 use borrow.Author.Needs.{needs}
 use denote.Ref.{now}
 use Rattle.session.specs.Machine.{sessionOf}
-use Rattle.session.proofs.Pieces.{closed-count, closed-piece}
+use Rattle.session.proofs.Pieces.{closed-count, closed-drawn, closed-piece}
 use Rattle.session.proofs.take_text.Statement.{statement}
 use Rattle.session.proofs.take_text.Tie as tie
 
@@ -12,7 +12,8 @@ short-text-requires : tie.Need-short-text-requires
 short-text-requires c κs =
     let start = c .before .before .before .before .before .before .before .before in
     let e = closed-count (sessionOf (start .args .s)) (sessionOf (c .before .before .close .result)) (c .before .before .close .ensures) in
-    (rw e (start .pre), rw e (omega arith), c .before .before .before .before .before .table .ensures)
+    let f = closed-drawn (sessionOf (start .args .s)) (sessionOf (c .before .before .close .result)) (c .before .before .close .ensures) in
+    (rw e (start .pre .0), rw e (omega arith), c .before .before .before .before .before .table .ensures, rw f (start .pre .1))
 
 returns : tie.Need-returns
 returns c =
@@ -21,7 +22,7 @@ returns c =
     closed-piece (sessionOf (a .s)) (sessionOf (close .result)) (close .ensures) _ (now (a .piece)) (now (a .out)) _ (c .before .before .short-text .ensures)
 
 text-with-requires : tie.Need-text-with-requires
-text-with-requires c κs = (c .before .before .before .before .before .before .before .before .before .before .before .pre, record { of-rounds = c .before .before .before .before .before .before .before .before .table .ensures; of-h = c .before .before .before .fill .ensures })
+text-with-requires c κs = let q = c .before .before .before .before .before .before .before .before .before .before .before .pre in (q .0, record { of-rounds = c .before .before .before .before .before .before .before .before .table .ensures; of-h = c .before .before .before .fill .ensures }, q .1)
 
 pub take-text-spec : {M : Type 1} → statement M
 take-text-spec =

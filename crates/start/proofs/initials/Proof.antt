@@ -13,7 +13,7 @@ use Rattle.lfsr.specs.Machine.{lfsrOf}
 use Rattle.cipher.specs.Registers.{IsRegisters}
 use Rattle.cipher.specs.Step.{sigma}
 use Rattle.cipher.specs.Machine.{registersOf}
-use Rattle.cipher.proofs.Typed.{every-state}
+use Rattle.cipher.proofs.Typed.{every-registers}
 use Rattle.cipher.proofs.Standing.{Turned, standing-first, standing-read}
 use Rattle.start.specs.Start.{initials}
 use Rattle.start.proofs.Feeding.{Fed, fed-more}
@@ -29,7 +29,7 @@ abbrev μ-loop : tie.MeasureT-loop
 μ-loop s n table r3₀ l₀ t1₀ t2₀ l1₀ l2₀ i₀ r3 l t1 t2 l1 l2 i = n - i
 
 good : (c : tie.Start Inv-loop μ-loop) → IsRegisters (registersOf (c .args .s))
-good c = every-state (c .args .s) _ (c .good .0)
+good c = every-registers (c .args .s) _ (c .good .0)
 
 abbrev begun : tie.At-loop Inv-loop μ-loop → tie.Start Inv-loop μ-loop
 begun c = c .before .before .before .before .before .before .before .before .before .before .before

@@ -1,5 +1,5 @@
 -- `start::start_with` meets its contract, by the lengths of key and IV.
-use mathlib.Core.Path.{_≡_, sym, ap₂, _∙_}
+use mathlib.Core.Path.{_≡_, sym, ap, ap₂, _∙_}
 use mathlib.Core.List.{List}
 use Prim.Native.Nat.{ℕ}
 use native.Mathlib.Omega.{arith}
@@ -8,6 +8,7 @@ use lib.ListN.{length}
 use denote.Ref.{now}
 use Rattle.scope.specs.Refusals.{granted}
 use Rattle.cipher.specs.Registers.{Registers}
+use Rattle.cipher.specs.State.{State}
 use Rattle.start.specs.Start.{start}
 use Rattle.start.proofs.Answers.{lengths-right, key-whole, iv-whole}
 use Rattle.start.specs.Machine.{modeOf}
@@ -15,11 +16,14 @@ use borrow.Author.Needs.{needs}
 use Rattle.start.proofs.start_with.Statement.{statement}
 use Rattle.start.proofs.start_with.Tie as tie
 
-refuses : (n : ℕ) (a b : Registers) → ¬ (n ≡ 0) → b ≡ granted n a b
+refuses : (n : ℕ) (a b : State) → ¬ (n ≡ 0) → b ≡ granted n a b
 refuses n a b h = rw (ne-eqb n 0 h)
 
-grants : (n : ℕ) (a b : Registers) → n ≡ 0 → a ≡ granted n a b
+grants : (n : ℕ) (a b : State) → n ≡ 0 → a ≡ granted n a b
 grants n a b h = rw (eq-eqb n 0 h)
+
+abbrev at-start : Registers → State
+at-start r = record { registers = r; count = 0 }
 
 right : (c : tie.Else1) → let a = c .before .before .before .before .args in (length (now (a .key)) ≡ 32) × (length (now (a .iv)) ≡ 16)
 right c =
@@ -39,9 +43,9 @@ returns-2 c =
     let n = sym (o .before .lengths .ensures) ∙ o .if1 .left in
     record {
       number = sym n;
-      state = c .sixteen-steps .ensures
+      state = ap (λ (r : Registers). at-start r) (c .sixteen-steps .ensures
           ∙ ap₂ (λ (k v : List ℕ). start k v (modeOf (a .mode))) (key-whole (now (a .key)) _ _ (right o .0) (l2 .before .load .ensures) (l2 .load2 .ensures))
-          (iv-whole (now (a .iv)) _ (right o .1) (l3 .load3 .ensures))
+          (iv-whole (now (a .iv)) _ (right o .1) (l3 .load3 .ensures)))
           ∙ grants _ _ _ n;
     }
 

@@ -6,7 +6,7 @@ use lib.ListN.{length}
 use denote.Ref.{now}
 use Rattle.scope.specs.Limits.{most-blocks}
 use Rattle.words.proofs.Typed.{known-bytes}
-use Rattle.cipher.specs.Machine.{registersOf}
+use Rattle.cipher.specs.Machine.{stateOf}
 use Rattle.cipher.proofs.Typed.{every-state}
 use Rattle.start.specs.Leads.{Traced, Traces}
 use Rattle.start.specs.Trace.{unload, loaded, trace}
@@ -17,33 +17,33 @@ use Rattle.start.proofs.trace_with.Statement.{statement}
 use Rattle.start.proofs.trace_with.Tie as tie
 
 -- both clauses, of an answer that is the walk's
-both : {t : Traced} (c : tie.After-shared-slice-known) → let a = c .before .args in t ≡ trace (registersOf (a .s)) (now (a .key)) (a .count)
-    → Traces (registersOf (a .s)) (now (a .key)) (a .count) t × (t ≡ trace (registersOf (a .s)) (now (a .key)) (a .count))
+both : {t : Traced} (c : tie.After-shared-slice-known) → let a = c .before .args in t ≡ trace (stateOf (a .s)) (now (a .key))
+    → Traces (stateOf (a .s)) (now (a .key)) t × (t ≡ trace (stateOf (a .s)) (now (a .key)))
 both c e =
     let a = c .before .args in
     let good = every-state (a .s) _ (c .before .good .0) in
-    (subst (Traces (registersOf (a .s)) (now (a .key)) (a .count)) (sym e) (traces (registersOf (a .s)) good (now (a .key)) (a .count) (known-bytes (now (a .key)) (c .shared-slice-known .given))), e)
+    (subst (Traces (stateOf (a .s)) (now (a .key))) (sym e) (traces (stateOf (a .s)) good (now (a .key)) (known-bytes (now (a .key)) (c .shared-slice-known .given))), e)
 
 returns : tie.Need-returns
 returns c =
     let w = c .before in
     let a = w .before .before .args in
-    both (w .before) (trace-refused (registersOf (a .s)) (now (a .key)) (a .count) (w .walk-number .ensures) (c .if1 .taken))
+    both (w .before) (trace-refused (stateOf (a .s)) (now (a .key)) (w .walk-number .ensures) (c .if1 .taken))
 
 -- a key of 32 bytes, and a count within the limit
-in-order : (c : tie.Else1) → let a = c .before .before .before .args in (length (now (a .key)) ≡ 32) × (a .count ≤ most-blocks)
-in-order c = let a = c .before .before .before .args in walkable (now (a .key)) (a .count) (sym (c .before .walk-number .ensures) ∙ c .if1 .left)
+in-order : (c : tie.Else1) → let a = c .before .before .before .args in (length (now (a .key)) ≡ 32) × (a .s .count ≤ most-blocks)
+in-order c = let a = c .before .before .before .args in walkable (now (a .key)) (a .s .count) (sym (c .before .walk-number .ensures) ∙ c .if1 .left)
 
 returns-2 : tie.Need-returns-2
 returns-2 c =
-    let x = c .before .before .before .before .before in
+    let x = c .before .before .before .before .before .before in
     let entry = x .before .before in
     let a = entry .before .args in
     let lk = in-order x .0 in
-    let k = key-whole (now (a .key)) _ _ lk (c .before .before .before .before .load .ensures) (c .before .before .before .load2 .ensures) in
+    let k = key-whole (now (a .key)) _ _ lk (c .before .before .before .before .before .load .ensures) (c .before .before .before .before .load2 .ensures) in
     both entry
     (c .unload .ensures ∙ ap₂ unload k (c .before .loaded .ensures ∙ ap₂ loaded k (c .before .before .walked-back .ensures))
-    ∙ trace-walks (registersOf (a .s)) (now (a .key)) (a .count) lk (in-order x .1))
+    ∙ trace-walks (stateOf (a .s)) (now (a .key)) lk (in-order x .1))
 
 pub trace-with-spec : {M : Type 1} → statement M
 trace-with-spec =

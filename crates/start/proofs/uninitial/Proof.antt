@@ -11,8 +11,8 @@ use borrow.Author.Needs.{needs}
 use Rattle.start.proofs.uninitial.Statement.{statement}
 use Rattle.start.proofs.uninitial.Tie as tie
 
-state-before-requires : tie.Need-state-before-requires
-state-before-requires c κs =
+registers-before-requires : tie.Need-registers-before-requires
+registers-before-requires c κs =
     let p = c .before .before in
     precedes-a _ _ _ _ (c .into-a .ensures) (p .z-before .ensures)
 
@@ -21,8 +21,8 @@ unfolding uninitial
 returns c =
     let m = c .before in
     let p = m .before .before in
-    c .state-before .ensures
+    c .registers-before .ensures
     ∙ ap back (m .into-a .ensures ∙ ap (λ (x : List ℕ). into-a x (registersOf (p .before .args .s))) (p .z-before .ensures .z))
 
 pub uninitial-spec : {M : Type 1} → statement M
-uninitial-spec = tie.close (tie.spec (λ c κs. search needs) (λ c κs. search needs) state-before-requires returns)
+uninitial-spec = tie.close (tie.spec (λ c κs. search needs) (λ c κs. search needs) registers-before-requires returns)

@@ -31,7 +31,7 @@ loop-again : tie.Need-loop-again Inv-loop μ-loop
 unfolding moves
 loop-again c =
     let l = c .before .before .before in
-    (omega arith, c .before .backward .ensures .state ∙ ap (move backward) (l .loop .inv .1) ∙ ap (λ (k : ℕ). moves backward k (registersOf (l .before .args .s))) (sym (add-one (l .loop .i))))
+    (omega arith, c .before .backward .ensures .registers ∙ ap (move backward) (l .loop .inv .1) ∙ ap (λ (k : ℕ). moves backward k (registersOf (l .before .args .s))) (sym (add-one (l .loop .i))))
 
 returns : tie.Need-returns Inv-loop μ-loop
 returns c =

@@ -9,17 +9,17 @@ use denote.Ref.{now}
 use Rattle.scope.specs.Limits.{most-text}
 use Rattle.words.specs.Bytes.{little}
 use Rattle.words.proofs.Typed.{known-bytes}
-use Rattle.cipher.specs.Registers.{Registers}
-use Rattle.cipher.specs.Machine.{registersOf}
+use Rattle.cipher.specs.State.{State}
+use Rattle.cipher.specs.Machine.{stateOf}
 use Rattle.start.specs.Start.{Mode.sealed}
-use Rattle.start.specs.Leads.{LeadsTo, Traced.origin}
+use Rattle.start.specs.Leads.{LeadsToState, Traced.origin}
 use Rattle.start.specs.Trace.{trace}
 use Rattle.start.specs.Machine.{modeOf, tracedOf}
-use Rattle.session.specs.Session.{Session, drawn-at}
+use Rattle.session.specs.Session.{Session}
 use Rattle.layout.specs.Block.{Suspended, read}
 use Rattle.layout.specs.Rules.{well-laid}
 use Rattle.layout.proofs.Obeying.{laid-long, laid-text}
-use Rattle.suspend.specs.Calls.{Resumed, revived, Revives}
+use Rattle.suspend.specs.Calls.{state-of, Resumed, revived, Revives}
 use Rattle.suspend.specs.Walk.{resume-call}
 use Rattle.suspend.proofs.Resuming.{revives, resume-bad-key, resume-bad-block, resume-refused, resume-plain, resume-sealed}
 use Rattle.suspend.proofs.resume.Statement.{statement}
@@ -55,27 +55,21 @@ laid c = sym (c .before .well-laid .ensures) ∙ not-false _ (c .if2 .left)
 read-requires : tie.Need-read-requires
 read-requires c κs = laid-long _ (laid c)
 
-drawn-requires : tie.Need-drawn-requires
-drawn-requires c κs =
-    let r = c .before .before in
-    subst (λ (n : ℕ). n ≤ most-text) (sym (ap (λ (k : Suspended). k .text) (r .read .ensures))) (laid-text _ (laid (r .before)))
+state-of-requires : tie.Need-state-of-requires
+state-of-requires c κs = subst (λ (n : ℕ). n ≤ most-text) (sym (ap (λ (k : Suspended). k .text) (c .read .ensures))) (laid-text _ (laid (c .before)))
 
 -- the answer of the trace, of what the block says
 walked : (c : tie.After-trace-with)
-    → let a = c .before .before .before .before .before .before .before .before .before .before .before .args in tracedOf (c .trace-with .result)
-    ≡ trace (read (now (a .block)) .registers) (now (a .key)) (drawn-at (read (now (a .block)) .text))
+    → let a = c .before .before .before .before .before .before .before .before .before .before .args in tracedOf (c .trace-with .result) ≡ trace (state-of (read (now (a .block)))) (now (a .key))
 walked c =
-    let d = c .before .before in
-    let r = d .before .before .before in
-    let a = r .before .before .before .before .before .before .args in
-    c .trace-with .ensures .1
-    ∙ ap₂ (λ (s : Registers) (n : ℕ). trace s (now (a .key)) n) (ap (λ (k : Suspended). k .registers) (r .read .ensures))
-    (d .drawn .ensures ∙ ap (λ (k : Suspended). drawn-at (k .text)) (r .read .ensures))
+    let d = c .before .before .before in
+    let a = d .before .before .before .before .before .before .before .args in
+    c .trace-with .ensures .1 ∙ ap (λ (s : State). trace s (now (a .key))) (d .state-of .ensures ∙ ap state-of (d .before .read .ensures))
 
 returns-3 : tie.Need-returns-3
 returns-3 c =
     let t = c .before .before .before in
-    let l = t .before .before .before .before .before .before in
+    let l = t .before .before .before .before .before in
     let entry = l .before .before .before in
     let a = entry .before .before .args in
     both entry
@@ -85,7 +79,7 @@ returns-4 : tie.Need-returns-4
 returns-4 c =
     let o = c .before .before .before .before in
     let t = o .before .before in
-    let l = t .before .before .before .before .before .before in
+    let l = t .before .before .before .before .before in
     let entry = l .before .before .before in
     let a = entry .before .before .args in
     let x = o .o .given in
@@ -98,17 +92,16 @@ revived-requires c κs =
     let v = c .before in
     let o = v .before .before .before .before in
     let t = o .before .before in
-    let d = t .before .before in
-    let r = d .before .before .before in
-    let a = r .before .before .before .before .before .before .args in
+    let d = t .before .before .before in
+    let a = d .before .before .before .before .before .before .before .args in
     let x = o .o .given in
     let iv = little 8 (x .0 .0 .lo) ++ little 8 (x .0 .0 .hi) in
     let e = ap tracedOf (x .1) ∙ ap (λ m. origin iv (modeOf m)) (v .before .enum-told3 .given .1) in
     let l = t .trace-with .ensures .0 .found iv sealed .0 e in (
       l .0 .0,
-      subst (λ (v : List ℕ). LeadsTo (now (a .key)) (drawn-at (r .read .result .text)) v sealed (registersOf (r .read .result .state))) (sym (v .iv-bytes .ensures))
-          (subst (λ (n : ℕ). LeadsTo (now (a .key)) n iv sealed (registersOf (r .read .result .state))) (d .drawn .ensures) (l .1)),
-      d .before .inverse-sbox .ensures,
+      d .state-of .ensures,
+      subst (λ (u : List ℕ). LeadsToState (now (a .key)) u sealed (stateOf (d .state-of .result))) (sym (v .iv-bytes .ensures)) (l .1),
+      t .before .before .inverse-sbox .ensures,
     )
 
 returns-5 : tie.Need-returns-5
@@ -116,7 +109,7 @@ returns-5 c =
     let v = c .before .before in
     let o = v .before .before .before .before in
     let t = o .before .before in
-    let r = t .before .before .before .before .before in
+    let r = t .before .before .before .before in
     let l = r .before in
     let entry = l .before .before .before in
     let a = entry .before .before .args in
@@ -138,8 +131,8 @@ resume-spec =
     (λ c κs. search needs)
     returns-2
     read-requires
+    state-of-requires
     (λ c κs. search needs)
-    drawn-requires
     (λ c κs. search needs)
     (λ c. search needs)
     (λ c. search needs)

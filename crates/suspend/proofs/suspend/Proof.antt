@@ -37,7 +37,7 @@ unfolding suspend-call
 returns-3 c =
     let p = c .before .before in
     let b = p .before .before .before in
-    let e = b .before .before .before in
+    let e = b .before .before .before .before in
     let a = e .before .before .before .before .args in
     let s = sessionOf (a .s) in
     let out = now (a .out) in

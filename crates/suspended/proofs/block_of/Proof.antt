@@ -16,13 +16,13 @@ use Rattle.cipher.specs.Machine.{registersOf}
 use Rattle.digest.specs.Machine.{sumOf}
 use Rattle.layout.specs.Block.{registers-bytes, body, block-of}
 use Rattle.suspended.specs.Machine.{suspendedOf}
-use Rattle.suspended.proofs.Placing.{state-long}
+use Rattle.suspended.proofs.Placing.{registers-long}
 use Rattle.suspended.proofs.block_of.Statement.{statement}
 use Rattle.suspended.proofs.block_of.Tie as tie
 
 -- the arrays' lengths, asked where little else stands in scope
 long : (c : tie.Start)
-    → (length (c .args .f .state .lfsr .a) ≡ 16) × (length (c .args .f .state .lfsr .b) ≡ 16) × (length (c .args .f .held .pending) ≡ 16)
+    → (length (c .args .f .registers .lfsr .a) ≡ 16) × (length (c .args .f .registers .lfsr .b) ≡ 16) × (length (c .args .f .held .pending) ≡ 16)
 long c = (search needs, search needs, search needs)
 
 in-parts : {n k m : ℕ} {f o out : List ℕ} → Front n f k o → (a b : List ℕ) → Front n (f ++ (a ++ b)) m out → Front n (f ++ a ++ b) m out
@@ -46,7 +46,7 @@ returns c =
     let f8 = front-put f4 (little 4 (f .ad)) 4 _ (little-long 4 (f .ad)) (lit≤ tt) (p1 .put .ensures) in
     let f12 = front-put f8 (little 4 (f .text)) 4 _ (little-long 4 (f .text)) (lit≤ tt) (p2 .put2 .ensures) in
     let f16 = front-skip f12 4 (lit≤ tt) in
-    let f128 = front-put f16 (registers-bytes (registersOf (f .state))) 112 _ (state-long (f .state) (long s .0) (long s .1)) (lit≤ tt) (ps .put-state .ensures) in
+    let f128 = front-put f16 (registers-bytes (registersOf (f .registers))) 112 _ (registers-long (f .registers) (long s .0) (long s .1)) (lit≤ tt) (ps .put-registers .ensures) in
     let f160 = in-parts f128 (held .hash) (held .pending) (front-put f128 (held .hash ++ held .pending) 32 _ held-long (lit≤ tt) (ph .put-held .ensures)) in
     let f508 : Front 512 (body (suspendedOf f)) 508 (ph .put-held .last .0) = front-skip f160 348 (lit≤ tt) in
     let e : k .check .result ≡ check (body (suspendedOf f)) =

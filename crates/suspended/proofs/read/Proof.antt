@@ -17,7 +17,7 @@ returns c =
       phase = getD b 0 0;
       ad = d .get .ensures .0 i;
       text = t .get2 .ensures .0 i;
-      registers = s .get-state .ensures i;
+      registers = s .get-registers .ensures i;
       sum = record { hash = c .get-held .ensures .0 i; pending = c .get-held .ensures .1 i };
     }
 

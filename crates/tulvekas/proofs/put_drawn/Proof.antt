@@ -18,7 +18,7 @@ returns c =
     let b = s1 .before in
     let a = b .before .before .before .args in
     let out = now (a .out) in
-    put-three out 136 (element-block (a .h)) (bytesOf (a .pad)) (s1 .store .ensures ∙ ap (sets out 136) (b .to-block .ensures)) (s2 .store2 .ensures) (bytesOf-block (a .pad)) (bytesOf (a .current)) (s3 .store3 .ensures)
+    put-three out 144 (element-block (a .h)) (bytesOf (a .pad)) (s1 .store .ensures ∙ ap (sets out 144) (b .to-block .ensures)) (s2 .store2 .ensures) (bytesOf-block (a .pad)) (bytesOf (a .current)) (s3 .store3 .ensures)
 
 pub put-drawn-spec : {M : Type 1} → statement M
 put-drawn-spec =

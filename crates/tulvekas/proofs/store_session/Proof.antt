@@ -6,18 +6,12 @@ use mir.Syntax.{w8, w64}
 use mir.Val.{Fits}
 use Rattle.words.proofs.Blocks.{bytesOf-block}
 use Rattle.ghash.proofs.Elements.{element-block}
-use Rattle.cipher.specs.Registers.{IsRegisters}
-use Rattle.cipher.specs.Machine.{registersOf}
-use Rattle.cipher.proofs.Typed.{every-state}
 use Rattle.session.specs.Machine.{sessionOf}
-use Rattle.tulvekas.proofs.Sizes.{Sized}
+use Rattle.tulvekas.proofs.Sizes.{every-sized, Sized}
 use Rattle.tulvekas.proofs.SessionLaws.{session-stored}
 use borrow.Author.Needs.{needs}
 use Rattle.tulvekas.proofs.store_session.Statement.{statement}
 use Rattle.tulvekas.proofs.store_session.Tie as tie
-
-good : (c : tie.Start) → IsRegisters (registersOf (c .args .s .state))
-good c = every-state (c .args .s .state) _ (c .good .1 .0 .1 .1 .1 .1 .1 .1 .1 .1 .1 .0)
 
 sized : (c : tie.Start) → Sized (sessionOf (c .args .s))
 sized c =
@@ -30,7 +24,7 @@ sized c =
       phase-byte = phase .fits;
       ad-fits = ad .fits;
       text-fits = text .fits;
-      registers-good = good c;
+      state-sized = every-sized (s .state) _ (c .good .1 .0 .1 .1 .1 .1 .1 .1 .1 .1 .1 .0);
       h-block = element-block (s .h);
       pad-block = bytesOf-block (s .pad);
       current-block = bytesOf-block (s .current);

@@ -6,6 +6,7 @@ use lib.ListN.{drop}
 use denote.Ref.{now}
 use Rattle.cipher.specs.Registers.{Registers, IsRegisters}
 use Rattle.cipher.specs.Run.{forward, blocks}
+use Rattle.cipher.specs.State.{State}
 use Rattle.cipher.specs.Machine.{registersOf}
 use Rattle.cipher.proofs.Typed.{every-state}
 use Rattle.start.specs.Start.{start}
@@ -16,7 +17,7 @@ use borrow.Author.Needs.{needs}
 use Rattle.tulvekas.proofs.tulvekas_keystream.Statement.{statement}
 use Rattle.tulvekas.proofs.tulvekas_keystream.Tie as tie
 
-good : (c : tie.After-start-with) → IsRegisters (registersOf (c .start-with .result .state))
+good : (c : tie.After-start-with) → IsRegisters (registersOf (c .start-with .result .state .registers))
 good c = every-state (c .start-with .result .state) _ (c .start-with .ok .1 .1 .1 .0)
 
 returns : tie.Need-returns
@@ -38,7 +39,7 @@ returns-2 c =
 returns-3 : tie.Need-returns-3
 returns-3 c =
     let r = c .before .before in
-    let st = r .before .before .before .before in
+    let st = r .before .before .before .before .before in
     let m = st .before .before in
     let x = m .before .before in
     let l = x .before .before in
@@ -48,10 +49,11 @@ returns-3 c =
     let out = now (a .out) in
     let z = x .before .if1 .left in
     let e = keystream-right key iv out (l .lengths .ensures) z (x .if2 .left) in
-    let s : registersOf (st .start-with .result .state) ≡ start key iv (mode-named (a .sealed)) =
-    st .start-with .ensures .state ∙ sym (accepted (sym z ∙ l .lengths .ensures) _ _) ∙ ap (start key iv) (m .mode-named .ensures) in (
+    let s : registersOf (st .start-with .result .state .registers) ≡ start key iv (mode-named (a .sealed)) =
+    ap (λ (t : State). t .registers) (st .start-with .ensures .state ∙ sym (accepted (sym z ∙ l .lengths .ensures) _ _))
+    ∙ ap (start key iv) (m .mode-named .ensures) in (
       e,
-      run-fills (registersOf (st .start-with .result .state)) (good st) out _ (r .run-forward .ensures .1)
+      run-fills (registersOf (st .start-with .result .state .registers)) (good st) out _ (r .run-forward .ensures .1)
           ∙ ap (λ (t : Registers). blocks forward (fitting out) t ++ drop (16 * fitting out) out) s
           ∙ accepted e (blocks forward (fitting out) (start key iv (mode-named (a .sealed))) ++ drop (16 * fitting out) out) out,
     )

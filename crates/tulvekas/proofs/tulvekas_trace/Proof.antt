@@ -2,16 +2,14 @@
 use mathlib.Core.Path.{_≡_, sym, ap, _∙_}
 use mathlib.Core.List.{List, _++_}
 use Prim.Native.Nat.{ℕ}
-use native.Mathlib.Omega.{arith}
 use lib.ListN.{set, drop}
-use lib.Seq.{take-all}
 use denote.Ref.{now}
-use Rattle.cipher.specs.Registers.{Registers}
+use Rattle.cipher.specs.State.{State}
 use Rattle.start.specs.Trace.{trace}
 use Rattle.start.specs.Machine.{modeOf, tracedOf}
-use Rattle.layout.specs.Block.{registers-at}
 use Rattle.tulvekas.specs.Cipher.{trace-of-bytes, mode-byte}
 use Rattle.tulvekas.proofs.Answering.{set-first}
+use Rattle.tulvekas.proofs.StateLaws.{whole-state}
 use Rattle.tulvekas.proofs.CipherAnswers.{trace-bad-key, trace-bad-state, trace-walks, told-refused, told-short-iv, told-short-sealed, told-found}
 use borrow.Author.Needs.{needs}
 use Rattle.tulvekas.proofs.tulvekas_trace.Statement.{statement}
@@ -19,7 +17,7 @@ use Rattle.tulvekas.proofs.tulvekas_trace.Tie as tie
 
 -- the answer of the trace, of the state that the bytes list
 walked : (c : tie.After-trace)
-    → let a = c .before .before .before .before .before .before .before .before .args in tracedOf (c .trace .result) ≡ trace-of-bytes (now (a .state)) (now (a .key)) (a .count)
+    → let a = c .before .before .before .before .before .before .before .before .args in tracedOf (c .trace .result) ≡ trace-of-bytes (now (a .state)) (now (a .key))
 walked c =
     let g = c .before in
     let x = g .before in
@@ -27,18 +25,18 @@ walked c =
     let s = now (a .state) in
     let n = x .if2 .left in
     c .trace .ensures .1
-    ∙ ap (λ (r : Registers). trace r (now (a .key)) (a .count)) (g .get-state .ensures ∙ ap registers-at (take-all 112 s (omega arith)))
-    ∙ trace-walks s (now (a .key)) (a .count) (x .before .if1 .left) n
+    ∙ ap (λ (t : State). trace t (now (a .key))) (g .get-state .ensures ∙ whole-state s n)
+    ∙ trace-walks s (now (a .key)) (x .before .if1 .left) n
 
 returns : tie.Need-returns
 returns c =
     let a = c .before .before .before .before .before .args in
-    told-refused (now (a .iv)) (now (a .sealed)) 1 (sym (trace-bad-key (now (a .state)) (now (a .key)) (a .count) (c .if1 .taken)))
+    told-refused (now (a .iv)) (now (a .sealed)) 1 (sym (trace-bad-key (now (a .state)) (now (a .key)) (c .if1 .taken)))
 
 returns-2 : tie.Need-returns-2
 returns-2 c =
     let a = c .before .before .before .before .before .before .args in
-    told-refused (now (a .iv)) (now (a .sealed)) 8 (sym (trace-bad-state (now (a .state)) (now (a .key)) (a .count) (c .before .if1 .left) (c .if2 .taken)))
+    told-refused (now (a .iv)) (now (a .sealed)) 8 (sym (trace-bad-state (now (a .state)) (now (a .key)) (c .before .if1 .left) (c .if2 .taken)))
 
 returns-3 : tie.Need-returns-3
 returns-3 c =

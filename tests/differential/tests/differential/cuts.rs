@@ -1,6 +1,6 @@
 //! One page cut everywhere, suspended and resumed everywhere.
 
-use crate::tester::{Pair, Tester};
+use crate::tester::{Session, Tester};
 
 /// What stands between two calls of a session.
 #[derive(Clone, Copy)]
@@ -21,7 +21,6 @@ struct Page {
 
 impl Page {
     fn new(t: &mut Tester, data_len: usize, text_len: usize) -> Page {
-        t.forget();
         let (key, iv) = (t.random.secret::<32>(), t.random.secret::<16>());
         let (data, text) = (t.random.bytes(data_len), t.random.bytes(text_len));
         let (answer, cipher, tag) = t.seal(&key, &iv, &data, &text, text_len, 16);
@@ -29,7 +28,7 @@ impl Page {
         Page { key, iv, data, text, cipher, tag }
     }
 
-    fn pause(&self, t: &mut Tester, session: &mut Pair, between: Between) {
+    fn pause(&self, t: &mut Tester, session: &Session, between: Between) {
         match between {
             Between::Nothing => {}
             Between::Suspend => {
@@ -44,18 +43,18 @@ impl Page {
     /// Seals the page with data and text cut at the places given, which are in order.
     fn seal_cut(&self, t: &mut Tester, data_cuts: &[usize], text_cuts: &[usize], between: Between) {
         let mut session = t.begin(&self.key, &self.iv);
-        self.pause(t, &mut session, between);
+        self.pause(t, &session, between);
         for piece in pieces(&self.data, data_cuts) {
             let answer = t.data(&mut session, piece);
             t.expect("data", answer, 0);
-            self.pause(t, &mut session, between);
+            self.pause(t, &session, between);
         }
         let mut cipher = Vec::new();
         for piece in pieces(&self.text, text_cuts) {
             let (answer, made) = t.text(&mut session, piece);
             t.expect("text", answer, 0);
             cipher.extend(made);
-            self.pause(t, &mut session, between);
+            self.pause(t, &session, between);
         }
         let (answer, tag) = t.finish(&mut session);
         t.expect("finish", answer, 0);

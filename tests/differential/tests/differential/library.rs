@@ -54,17 +54,27 @@ extern "C" {
         out: *mut u8,
         out_len: usize,
     ) -> u64;
+    pub fn tulvekas_start(
+        key: *const u8,
+        key_len: usize,
+        iv: *const u8,
+        iv_len: usize,
+        sealed: u64,
+        state: *mut u8,
+        state_len: usize,
+    ) -> u64;
+    pub fn tulvekas_run(state: *mut u8, state_len: usize, n: u64, back: u64, out: *mut u8, out_len: usize) -> u64;
     pub fn tulvekas_trace(
         state: *const u8,
         state_len: usize,
         key: *const u8,
         key_len: usize,
-        count: u64,
         iv: *mut u8,
         iv_len: usize,
         sealed: *mut u8,
         sealed_len: usize,
     ) -> u64;
+    pub fn tulvekas_state_of(block: *const u8, block_len: usize, state: *mut u8, state_len: usize) -> u64;
     pub fn tulvekas_kept(today: u64, departure: u64, kept: *mut u8, kept_len: usize) -> u64;
     pub fn tulvekas_file_seal(
         key: *const u8,

@@ -1,7 +1,8 @@
 //! Every combination of what a call refuses: the first in its order is the answer.
 
-use crate::tester::{FileOpen, FileSeal, Pair, Tester, SESSION_BYTES};
-use reference::cipher::{Key, Mode, State};
+use crate::arbitrary::COUNT_AT;
+use crate::tester::{FileOpen, FileSeal, Session, Tester, SESSION_BYTES, STATE_BYTES};
+use reference::cipher::{Key, Mode, Registers};
 use reference::page;
 use reference::suspended::check;
 
@@ -14,6 +15,10 @@ const KEY_LENGTHS: [usize; 4] = [32, 0, 31, 33];
 const IV_LENGTHS: [usize; 4] = [16, 0, 15, 17];
 /// Buffers of 16 bytes to be written.
 const ROOMS_16: [usize; 4] = [16, 0, 15, 21];
+/// Buffers of 120 bytes to be written.
+const ROOMS_120: [usize; 6] = [STATE_BYTES, 0, 112, STATE_BYTES - 1, STATE_BYTES + 1, 300];
+/// States that are read.
+const STATE_LENGTHS: [usize; 5] = [STATE_BYTES, 0, 112, STATE_BYTES - 1, STATE_BYTES + 1];
 const SESSION_LENGTHS: [usize; 4] = [SESSION_BYTES, 0, SESSION_BYTES - 1, SESSION_BYTES + 1];
 
 /// Outputs for `len` bytes: exact, empty, one too short, longer.
@@ -98,7 +103,7 @@ fn order_of_open() {
 #[test]
 fn lengths_of_fixed_buffers() {
     let mut t = Tester::new("lengths of fixed buffers");
-    for len in (0..=80).chain([255, 256, 257, 288, 65_535, 65_536, 65_552, 65_568]) {
+    for len in (0..=130).chain([255, 256, 257, 288, 65_535, 65_536, 65_552, 65_568, 65_656]) {
         let bytes = t.random.bytes(len);
         let (key, iv, text) = (t.random.array::<32>(), t.random.array::<16>(), t.random.bytes(23));
         let (key_answer, iv_answer) = (if len == 32 { 0 } else { 1 }, if len == 16 { 0 } else { 2 });
@@ -114,6 +119,14 @@ fn lengths_of_fixed_buffers() {
             (t.begin_in(&key, &bytes, SESSION_BYTES).0, iv_answer),
             (t.keystream(&bytes, &iv, 1, 40).0, key_answer),
             (t.keystream(&key, &bytes, 0, 40).0, iv_answer),
+            (t.start_in(&bytes, &iv, 1, STATE_BYTES).0, key_answer),
+            (t.start_in(&key, &bytes, 0, STATE_BYTES).0, iv_answer),
+            (t.start_in(&key, &iv, 0, len).0, if len < STATE_BYTES { 4 } else { 0 }),
+            (t.run_in(&mut bytes.clone(), 0, 0, 0).0, if len == STATE_BYTES { 9 } else { 8 }),
+            (t.run_in(&mut vec![0; STATE_BYTES], 2, 0, len).0, if len < 32 { 4 } else { 0 }),
+            (t.trace(&bytes, &key).0, if len == STATE_BYTES { 9 } else { 8 }),
+            (t.trace(&[0; STATE_BYTES], &bytes).0, if len == 32 { 6 } else { 1 }),
+            (t.state_of(&bytes).0, 8),
         ];
         for (answer, expected) in answers {
             t.expect("a call with a buffer of another length", answer, expected);
@@ -144,19 +157,19 @@ const DATA_LEN: usize = 21;
 const TEXT_LEN: usize = 39;
 
 /// One session in each of the phases data, text and finished.
-fn in_each_phase(t: &mut Tester, key: &[u8; 32], iv: &[u8; 16]) -> [Pair; 3] {
+fn in_each_phase(t: &mut Tester, key: &[u8; 32], iv: &[u8; 16]) -> [Session; 3] {
     let (data, text) = (t.random.bytes(DATA_LEN), t.random.bytes(TEXT_LEN));
     let mut in_data = t.begin(key, iv);
     t.data(&mut in_data, &data);
-    let mut in_text = in_data.clone();
+    let mut in_text = in_data;
     t.text(&mut in_text, &text);
-    let mut finished = in_text.clone();
+    let mut finished = in_text;
     t.finish(&mut finished);
     [in_data, in_text, finished]
 }
 
 /// Suspends, or requires that the session is finished: what a call has left behind.
-fn look_at(t: &mut Tester, session: &Pair) {
+fn look_at(t: &mut Tester, session: &Session) {
     t.suspend_in(session, SESSION_BYTES, 512);
 }
 
@@ -170,7 +183,7 @@ fn order_of_data() {
         for session_len in SESSION_LENGTHS {
             for (phase, session) in sessions.iter().enumerate() {
                 for piece_len in [0, 1, 50, 65_535 - DATA_LEN, 65_536 - DATA_LEN, 65_536] {
-                    let mut session = session.clone();
+                    let mut session = *session;
                     let answer = t.data_in(&mut session, session_len, &source[..piece_len]);
                     let expected = first(&[(session_len != SESSION_BYTES, 8), (phase > 0, 7), (DATA_LEN + piece_len > 65_535, 3)]);
                     t.expect("data", answer, expected);
@@ -198,12 +211,51 @@ fn order_of_text() {
                     }
                     let outs = if piece_len == 0 { vec![0, 5] } else { rooms(piece_len).to_vec() };
                     for out_len in outs {
-                        let mut session = session.clone();
+                        let mut session = *session;
                         let answer = t.text_in(&mut session, session_len, &source[..piece_len], out_len).0;
                         let expected = first(&[
                             (session_len != SESSION_BYTES, 8),
                             (phase > 1, 7),
                             (so_far + piece_len > 1_048_576, 3),
+                            (out_len < piece_len, 4),
+                        ]);
+                        t.expect("text", answer, expected);
+                        look_at(&mut t, &session);
+                    }
+                }
+            }
+        }
+    }
+    t.done();
+}
+
+/// Sessions whose count was set to another: 9 stands between 3 and 4.
+#[test]
+fn order_of_text_at_a_count() {
+    let mut t = Tester::new("order of text at a count");
+    let source = t.random.bytes(1_048_577);
+    let (key, iv) = (t.random.secret::<32>(), t.random.secret::<16>());
+    let sessions = in_each_phase(&mut t, &key, &iv);
+    for session_len in SESSION_LENGTHS {
+        for (phase, session) in sessions.iter().enumerate() {
+            let so_far = [0, TEXT_LEN, TEXT_LEN][phase];
+            for piece_len in [0, 1, 9, 10, 50, 1_048_577 - so_far] {
+                let drawn = ((so_far + piece_len).div_ceil(16) - so_far.div_ceil(16)) as u64;
+                let most = 65_538_u64.saturating_sub(drawn);
+                for count in [0, 1, most.saturating_sub(1), most, most + 1, 65_537, 65_538, 65_539, u64::MAX - drawn, u64::MAX] {
+                    let outs = if piece_len == 0 { vec![0, 5] } else { rooms(piece_len).to_vec() };
+                    for out_len in outs {
+                        if !t.chosen() {
+                            continue;
+                        }
+                        let mut session = *session;
+                        session[COUNT_AT..COUNT_AT + 8].copy_from_slice(&count.to_le_bytes());
+                        let answer = t.text_in(&mut session, session_len, &source[..piece_len], out_len).0;
+                        let expected = first(&[
+                            (session_len != SESSION_BYTES, 8),
+                            (phase > 1, 7),
+                            (so_far + piece_len > 1_048_576, 3),
+                            (count > most, 9),
                             (out_len < piece_len, 4),
                         ]);
                         t.expect("text", answer, expected);
@@ -225,7 +277,7 @@ fn order_of_finish_and_suspend() {
         for session_len in (0..=SESSION_BYTES + 10).chain([300, 512, 1_000]) {
             for (phase, session) in sessions.iter().enumerate() {
                 for tag_len in ROOMS_16 {
-                    let mut session = session.clone();
+                    let mut session = *session;
                     let answer = t.finish_in(&mut session, session_len, tag_len).0;
                     t.expect("finish", answer, first(&[(session_len != SESSION_BYTES, 8), (phase > 1, 7), (tag_len < 16, 4)]));
                     look_at(&mut t, &session);
@@ -251,7 +303,7 @@ fn order_of_resume() {
         block[508..].copy_from_slice(&sum.to_le_bytes());
         block
     };
-    let mut plain = State::start(&Key::new(&key).unwrap(), &iv, Mode::Plain);
+    let mut plain = Registers::start(&Key::new(&key).unwrap(), &iv, Mode::Plain);
     for _ in 0..2 + TEXT_LEN.div_ceil(16) {
         plain.step();
     }
@@ -313,31 +365,91 @@ fn order_of_keystream() {
 }
 
 #[test]
+fn order_of_start() {
+    let mut t = Tester::new("order of start");
+    for key_len in KEY_LENGTHS {
+        for iv_len in IV_LENGTHS {
+            for sealed in [0, 1] {
+                for state_len in ROOMS_120 {
+                    let (key, iv) = (t.random.bytes(key_len), t.random.bytes(iv_len));
+                    let answer = t.start_in(&key, &iv, sealed, state_len).0;
+                    let expected = first(&[(key_len != 32, 1), (iv_len != 16, 2), (state_len < STATE_BYTES, 4)]);
+                    t.expect("start", answer, expected);
+                }
+            }
+        }
+    }
+    t.done();
+}
+
+/// A state of these registers at a count, cut or with a byte behind.
+fn state_at(registers: &[u8; 112], count: u64, len: usize) -> Vec<u8> {
+    [&registers[..], &count.to_le_bytes(), &[0]].concat()[..len].to_vec()
+}
+
+#[test]
+fn order_of_run() {
+    let mut t = Tester::new("order of run");
+    let registers = t.random.array::<112>();
+    let numbers = [0, 1, 2, 65_537, 65_538, 65_539, 1 << 32, 1 << 60, u64::MAX];
+    for state_len in STATE_LENGTHS {
+        for count in numbers {
+            for n in numbers {
+                for back in [0, 1, 2, 1 << 32, u64::MAX] {
+                    let too_high = count > 65_538 || n > 65_538 || back == 0 && count + n > 65_538;
+                    let before_start = back != 0 && n > count;
+                    let rooms = match n {
+                        0 => vec![0, 5],
+                        // An output of the full length where nothing else is refused; two directions for the long ones.
+                        _ if n <= 2 || !too_high && !before_start && back < 2 => rooms(16 * n as usize).to_vec(),
+                        _ => vec![0, 40],
+                    };
+                    for out_len in rooms {
+                        if !t.chosen() {
+                            continue;
+                        }
+                        let mut state = state_at(&registers, count, state_len);
+                        let answer = t.run_in(&mut state, n, back, out_len).0;
+                        let expected = first(&[
+                            (state_len != STATE_BYTES, 8),
+                            (too_high, 9),
+                            (before_start, 15),
+                            ((out_len as u128) < 16 * u128::from(n), 4),
+                        ]);
+                        t.expect("run", answer, expected);
+                    }
+                }
+            }
+        }
+    }
+    t.done();
+}
+
+#[test]
 fn order_of_trace() {
     let mut t = Tester::new("order of trace");
     let (key, iv) = (t.random.array::<32>(), t.random.array::<16>());
     for mode in [Mode::Plain, Mode::Sealed] {
-        let mut state = State::start(&Key::new(&key).unwrap(), &iv, mode);
+        let mut registers = Registers::start(&Key::new(&key).unwrap(), &iv, mode);
         for _ in 0..5 {
-            state.step();
+            registers.step();
         }
-        let ours = state.to_bytes();
+        let ours = registers.to_bytes();
         let mut foreign = ours;
         foreign[77] ^= 0x40;
         for key_len in KEY_LENGTHS {
-            for state_len in [112, 0, 111, 113] {
-                for count in [5, 4, 6, 65_539, 1 << 32 | 5, u64::MAX] {
-                    for state in [ours, foreign] {
+            for state_len in STATE_LENGTHS {
+                for count in [5, 0, 1, 4, 6, 65_539, 1 << 32 | 5, u64::MAX] {
+                    for registers in [ours, foreign] {
                         for iv_len in ROOMS_16 {
                             for sealed_len in [1, 0, 2] {
                                 let key = &[&key[..], &[0]].concat()[..key_len];
-                                let cut = &[&state[..], &[0]].concat()[..state_len];
-                                let answer = t.trace_in(cut, key, count, iv_len, sealed_len).0;
+                                let answer = t.trace_in(&state_at(&registers, count, state_len), key, iv_len, sealed_len).0;
                                 let expected = first(&[
                                     (key_len != 32, 1),
-                                    (state_len != 112, 8),
+                                    (state_len != STATE_BYTES, 8),
                                     (count > 65_538, 9),
-                                    (count != 5 || state != ours, 6),
+                                    (count != 5 || registers != ours, 6),
                                     (iv_len < 16 || sealed_len < 1, 4),
                                 ]);
                                 t.expect("trace", answer, expected);
@@ -345,6 +457,54 @@ fn order_of_trace() {
                         }
                     }
                 }
+            }
+        }
+    }
+    t.done();
+}
+
+/// The longest way back that is made, at counts that no start leads to.
+#[test]
+fn order_of_trace_at_the_highest_counts() {
+    let mut t = Tester::new("order of trace at the highest counts");
+    let (key, registers) = (t.random.array::<32>(), t.random.array::<112>());
+    for (count, expected) in [(65_537, 6), (65_538, 6), (65_539, 9)] {
+        for (iv_len, sealed_len) in [(16, 1), (0, 0)] {
+            let answer = t.trace_in(&state_at(&registers, count, STATE_BYTES), &key, iv_len, sealed_len).0;
+            t.expect("trace", answer, expected);
+        }
+    }
+    t.done();
+}
+
+#[test]
+fn order_of_state_of() {
+    let mut t = Tester::new("order of state_of");
+    let (key, iv) = (t.random.array::<32>(), t.random.array::<16>());
+    let [in_data, in_text, _] = in_each_phase(&mut t, &key, &iv);
+    for session in [in_data, in_text] {
+        let block = t.suspend(&session);
+        let (mut foreign, mut torn, mut unchecked) = (block, block, block);
+        foreign[100] ^= 1;
+        torn[300] ^= 1;
+        unchecked[508] ^= 1;
+        for block in [&mut foreign, &mut torn] {
+            let sum = check(block);
+            block[508..].copy_from_slice(&sum.to_le_bytes());
+        }
+        let blocks: [(&[u8], bool); 7] = [
+            (&block, true),
+            (&foreign, true),
+            (&torn, false),
+            (&unchecked, false),
+            (&block[..511], false),
+            (&[&block[..], &[0]].concat(), false),
+            (&[], false),
+        ];
+        for (block, laid) in blocks {
+            for state_len in ROOMS_120 {
+                let answer = t.state_of_in(block, state_len).0;
+                t.expect("state_of", answer, first(&[(!laid, 8), (state_len < STATE_BYTES, 4)]));
             }
         }
     }

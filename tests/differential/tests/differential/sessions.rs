@@ -1,13 +1,12 @@
 //! Sessions under lists of calls, accepted and refused ones.
 
-use crate::tester::{Pair, Tester, SESSION_BYTES};
-use reference::session::Phase;
+use crate::tester::{Session, Tester, SESSION_BYTES};
 
 /// A session beside what it was given and what it gave.
 struct Page {
     key: [u8; 32],
     iv: [u8; 16],
-    session: Pair,
+    session: Session,
     data: Vec<u8>,
     text: Vec<u8>,
     cipher: Vec<u8>,
@@ -15,10 +14,14 @@ struct Page {
 
 impl Page {
     fn begin(t: &mut Tester) -> Page {
-        t.forget();
         let (key, iv) = (t.random.secret::<32>(), t.random.secret::<16>());
         let session = t.begin(&key, &iv);
         Page { key, iv, session, data: Vec::new(), text: Vec::new(), cipher: Vec::new() }
+    }
+
+    /// Whether the data are closed: byte 0 of a session is its phase.
+    fn late(&self) -> bool {
+        self.session[0] != 0
     }
 
     fn data(&mut self, t: &mut Tester, piece: &[u8]) -> u64 {
@@ -72,7 +75,7 @@ impl Page {
         let piece = t.random.bytes(len);
         match t.random.below(16) {
             0..=3 => {
-                let late = self.session.ours.phase() != Phase::Data;
+                let late = self.late();
                 let answer = self.data(t, &piece);
                 t.expect("data", answer, if late { 7 } else { 0 });
             }
@@ -88,7 +91,7 @@ impl Page {
             }
             11 | 12 => {
                 let (key, iv) = (self.key, self.iv);
-                t.suspend_and_resume(&key, &iv, &mut self.session);
+                t.suspend_and_resume(&key, &iv, &self.session);
             }
             13 if len > 0 => {
                 let short = if t.random.one_in(2) { len - 1 } else { t.random.below(len) };
@@ -102,7 +105,7 @@ impl Page {
             }
             15 if t.random.one_in(4) => {
                 let over = vec![0x5a; 65_536 - self.data.len()];
-                let late = self.session.ours.phase() != Phase::Data;
+                let late = self.late();
                 let answer = self.data(t, &over);
                 t.expect("data", answer, if late { 7 } else { 3 });
             }
@@ -166,24 +169,24 @@ fn sessions_up_to_the_limits() {
             t.expect("data", answer, expected);
         }
         let (key, iv) = (page.key, page.iv);
-        t.suspend_and_resume(&key, &iv, &mut page.session);
+        t.suspend_and_resume(&key, &iv, &page.session);
         while page.text.len() < 1_048_576 {
             let left = 1_048_576 - page.text.len();
             let answer = page.text(&mut t, &source[..left + 1]);
             t.expect("text", answer, 3);
-            let late = page.session.ours.phase() != Phase::Data;
+            let late = page.late();
             let answer = page.data(&mut t, &source[..1]);
             t.expect("data", answer, if late { 7 } else { 3 });
             let len = if t.random.one_in(6) { left } else { (1 + t.random.below(20 * most_piece)).min(left) };
             let answer = page.text(&mut t, &source[..len]);
             t.expect("text", answer, 0);
-            t.suspend_and_resume(&key, &iv, &mut page.session);
+            t.suspend_and_resume(&key, &iv, &page.session);
         }
         for (len, expected) in [(1, 3), (0, 0), (16, 3)] {
             let answer = page.text(&mut t, &source[..len]);
             t.expect("text", answer, expected);
         }
-        t.suspend_and_resume(&key, &iv, &mut page.session);
+        t.suspend_and_resume(&key, &iv, &page.session);
         page.finish(&mut t);
     }
     t.done();

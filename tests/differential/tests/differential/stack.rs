@@ -4,7 +4,7 @@
 
 use crate::library::*;
 use crate::random::Random;
-use crate::tester::SESSION_BYTES;
+use crate::tester::{SESSION_BYTES, STATE_BYTES};
 use std::ffi::c_void;
 use std::ptr::null_mut;
 
@@ -73,8 +73,8 @@ fn of_a_page(random: &mut Random, data_len: usize, text_len: usize) -> Vec<(&'st
     let (c, o, g) = (cipher.as_mut_ptr(), opened.as_mut_ptr(), tag.as_mut_ptr());
     let (mut session, mut block, mut byte) = ([0; SESSION_BYTES], [0; 512], [0]);
     let (s, b, y) = (session.as_mut_ptr(), block.as_mut_ptr(), byte.as_mut_ptr());
-    let (mut found, count) = ([0; 16], 2 + m.div_ceil(16) as u64);
-    let f = found.as_mut_ptr();
+    let (mut found, mut state, blocks) = ([0; 16], [0; STATE_BYTES], m as u64 / 16);
+    let (f, a) = (found.as_mut_ptr(), state.as_mut_ptr());
     let mut taken = Vec::new();
     let mut take = |name, call: &dyn Fn() -> u64| take(&mut taken, name, call);
     unsafe {
@@ -91,7 +91,12 @@ fn of_a_page(random: &mut Random, data_len: usize, text_len: usize) -> Vec<(&'st
         take("resume", &|| tulvekas_resume(k, 32, b, 512, s, SESSION_BYTES, f, 16));
         take("finish", &|| tulvekas_finish(s, SESSION_BYTES, g, 16));
         take("keystream", &|| tulvekas_keystream(k, 32, v, 16, 1, o, m));
-        take("trace", &|| tulvekas_trace(b.add(16), 112, k, 32, count, f, 16, y, 1));
+        take("state_of", &|| tulvekas_state_of(b, 512, a, STATE_BYTES));
+        take("trace", &|| tulvekas_trace(a, STATE_BYTES, k, 32, f, 16, y, 1));
+        take("start", &|| tulvekas_start(k, 32, v, 16, 1, a, STATE_BYTES));
+        for back in [0, 1] {
+            take("run", &|| tulvekas_run(a, STATE_BYTES, blocks, back, o, m));
+        }
         take("kept", &|| tulvekas_kept(1_000, 500, y, 1));
     }
     taken

@@ -1,7 +1,7 @@
 //! Suspended sessions: layouts kept and broken, foreign states, and what is taken as stored.
 
-use crate::tester::{Pair, Tester, SESSION_BYTES};
-use reference::cipher::{Key, Mode, State};
+use crate::tester::{Session, Tester, SESSION_BYTES};
+use reference::cipher::{Key, Mode, Registers};
 use reference::suspended::check;
 
 /// Sets the check again, so that a change breaks its own rule alone.
@@ -24,7 +24,6 @@ struct Suspended {
 
 /// A session suspended with these lengths; `closed` ones have taken a text piece.
 fn suspended(t: &mut Tester, data_len: usize, text_len: usize, closed: bool) -> Suspended {
-    t.forget();
     let (key, iv) = (t.random.secret::<32>(), t.random.secret::<16>());
     let mut session = t.begin(&key, &iv);
     let (data, text) = (t.random.bytes(data_len), t.random.bytes(text_len));
@@ -32,7 +31,7 @@ fn suspended(t: &mut Tester, data_len: usize, text_len: usize, closed: bool) -> 
     if closed {
         t.text(&mut session, &text);
     }
-    let block = t.suspend_and_resume(&key, &iv, &mut session);
+    let block = t.suspend_and_resume(&key, &iv, &session);
     Suspended { key, block }
 }
 
@@ -59,7 +58,7 @@ const SHAPES: [(usize, usize, bool); 18] = [
 ];
 
 /// Goes on with a session that was resumed, however its hash came about.
-fn go_on(t: &mut Tester, mut session: Pair) {
+fn go_on(t: &mut Tester, mut session: Session) {
     let (data, text) = (t.random.bytes(21), t.random.bytes(37));
     t.suspend(&session);
     t.data(&mut session, &data);
@@ -81,6 +80,8 @@ fn every_bit_damaged() {
                 block[bit / 8] ^= 1 << (bit % 8);
                 let answer = t.resume(&suspended.key, &block).0;
                 t.expect("resume", answer, 8);
+                let answer = t.state_of(&block).0;
+                t.expect("state_of", answer, 8);
             }
         }
     }
@@ -100,6 +101,8 @@ fn every_byte_changed_and_checked() {
                 }
                 let block = with(&suspended.block, at, &[suspended.block[at] ^ change]);
                 let (answer, session, _) = t.resume(&suspended.key, &block);
+                let of_state = t.state_of(&block).0;
+                t.expect("state_of", of_state, if answer == 8 { 8 } else { 0 });
                 match at {
                     0 if suspended.block[0] ^ change > 1 => t.expect("resume", answer, 8),
                     1..=3 | 12..=15 | 160..=507 => t.expect("resume", answer, 8),
@@ -125,6 +128,8 @@ fn each_rule_broken() {
         let refused = |t: &mut Tester, block: &[u8]| {
             let answer = t.resume(&key, block).0;
             t.expect("resume", answer, 8);
+            let answer = t.state_of(block).0;
+            t.expect("state_of", answer, 8);
         };
         for phase in 2..=255 {
             refused(&mut t, &with(&block, 0, &[phase]));
@@ -157,7 +162,7 @@ fn each_rule_broken() {
             off[508..].copy_from_slice(&check(&block).wrapping_add(by).to_le_bytes());
             refused(&mut t, &off);
         }
-        for len in [0, 1, 16, 127, 216, 508, 511] {
+        for len in [0, 1, 16, 120, 127, SESSION_BYTES, 508, 511] {
             refused(&mut t, &block[..len]);
         }
         for extra in [1, 4, 512] {
@@ -177,6 +182,8 @@ fn foreign_states() {
             let refused = |t: &mut Tester, key: &[u8], block: &[u8]| {
                 let answer = t.resume(key, block).0;
                 t.expect("resume", answer, 6);
+                let answer = t.state_of(block).0;
+                t.expect("state_of", answer, 0);
             };
             let random = t.random.bytes(112);
             refused(&mut t, &key, &with(&block, 16, &random));
@@ -187,13 +194,13 @@ fn foreign_states() {
             refused(&mut t, &near_key, &block);
 
             let iv = t.random.secret::<16>();
-            let mut plain = State::start(&Key::new(&key).unwrap(), &iv, Mode::Plain);
+            let mut plain = Registers::start(&Key::new(&key).unwrap(), &iv, Mode::Plain);
             for _ in 0..2 + text_len.div_ceil(16) {
                 plain.step();
             }
             refused(&mut t, &key, &with(&block, 16, &plain.to_bytes()));
 
-            let mut moved = State::from_bytes(block[16..128].try_into().unwrap());
+            let mut moved = Registers::from_bytes(block[16..128].try_into().unwrap());
             if t.random.one_in(2) {
                 moved.step();
             } else {
@@ -254,8 +261,10 @@ fn random_blocks() {
     for _ in 0..t.rounds(4_000) {
         let key = t.random.secret::<32>();
         let random: [u8; 512] = t.random.array();
-        t.resume(&key, &random);
-        t.resume(&key, &checked(random));
+        for random in [random, checked(random)] {
+            t.resume(&key, &random);
+            t.state_of(&random);
+        }
         let mut block = [0; 512];
         let text_len = t.random.below(400);
         block[0] = 1;
@@ -264,6 +273,10 @@ fn random_blocks() {
         t.random.fill(&mut block[16..144 + text_len % 16]);
         let answer = t.resume(&key, &checked(block)).0;
         t.expect("resume", answer, 6);
+        let (answer, state) = t.state_of(&checked(block));
+        t.expect("state_of", answer, 0);
+        let answer = t.trace(&state, &key).0;
+        t.expect("trace", answer, 6);
     }
     t.done();
 }

@@ -6,27 +6,18 @@ use crate::library::*;
 use crate::random::Random;
 use reference::calls;
 use reference::refusal::number;
-use reference::session::{Phase, Session};
-use std::collections::{BTreeMap, HashMap};
+use std::collections::BTreeMap;
 
 pub const SESSION_BYTES: usize = calls::SESSION_BYTES;
+pub const STATE_BYTES: usize = calls::STATE_BYTES;
+
+/// A session between two calls.
+pub type Session = [u8; SESSION_BYTES];
 
 /// What a lent buffer must hold after a call.
 enum Left<'a> {
     Unchanged,
     Bytes(&'a [u8]),
-    /// A session in the first 216 bytes, whose layout is the library's own; nothing behind it has changed.
-    Session,
-}
-
-/// One session, in the reference and in the library.
-#[derive(Clone)]
-pub struct Pair {
-    pub ours: Session,
-    pub theirs: [u8; SESSION_BYTES],
-    /// The phase in which it was finished. A page without text may be finished in either, and the documents do not say whether these
-    /// are the same session.
-    finished_in: Option<Phase>,
 }
 
 /// What a seal into a page file is given beside the file.
@@ -59,8 +50,6 @@ pub struct Tester {
     /// How often each number was answered.
     answers: BTreeMap<u64, u64>,
     pub random: Random,
-    /// The library's bytes of each session met.
-    sessions: HashMap<(Session, Option<Phase>), [u8; SESSION_BYTES]>,
 }
 
 fn number_from(variable: &str, default: u64) -> u64 {
@@ -80,6 +69,13 @@ fn difference(found: &[u8], expected: &[u8]) -> String {
     format!("from byte {at} of {}: {:02x?}, expected {:02x?}", found.len(), &found[at..end], &expected[at..end])
 }
 
+/// Takes over what an accepted call has written to a session.
+fn moved_on(session: &mut Session, after: &[u8], answer: u64) {
+    if answer == 0 {
+        session.copy_from_slice(after);
+    }
+}
+
 impl Tester {
     /// `TULVEKAS_SEED` gives another seed. `TULVEKAS_ROUNDS` is the share of the cases that is run, in percent, and may be over 100.
     /// `TULVEKAS_CANARIES` is the length of a canary.
@@ -94,7 +90,6 @@ impl Tester {
             calls: 0,
             answers: BTreeMap::new(),
             random: Random::new(of_test),
-            sessions: HashMap::new(),
         }
     }
 
@@ -121,17 +116,8 @@ impl Tester {
 
     /// Says how many calls were compared with the reference.
     pub fn done(&self) {
-        self.say("compared");
-    }
-
-    /// Says how many calls were held against their limits alone, where the reference has no answer to compare with.
-    pub fn done_within_limits(&self) {
-        self.say("within their limits");
-    }
-
-    fn say(&self, how: &str) {
         let answers: Vec<_> = self.answers.iter().map(|(answer, times)| format!("{times} answered {answer}")).collect();
-        println!("{}: {} calls {how} ({})", self.test, self.calls, answers.join(", "));
+        println!("{}: {} calls compared ({})", self.test, self.calls, answers.join(", "));
     }
 
     pub fn fail(&self, call: &str, what: String) -> ! {
@@ -170,28 +156,12 @@ impl Tester {
                 _ if expected != 0 => (contents != before).then_some(before),
                 Left::Unchanged => (contents != before).then_some(before),
                 Left::Bytes(bytes) => (contents != *bytes).then_some(*bytes),
-                Left::Session => (contents[SESSION_BYTES..] != before[SESSION_BYTES..]).then_some(before),
             };
             if let Some(wrong) = wrong {
                 let difference = difference(contents, wrong);
                 self.fail(call, format!("answer {found}, {} is wrong {difference}; lengths{}", lent.name(), lengths()));
             }
         }
-    }
-
-    /// Equal sessions have equal bytes.
-    fn know(&mut self, call: &str, pair: &Pair) {
-        let key = (pair.ours.clone(), pair.finished_in);
-        if let Some(known) = self.sessions.insert(key, pair.theirs) {
-            if known != pair.theirs {
-                self.fail(call, format!("the same session has other bytes {}", difference(&pair.theirs, &known)));
-            }
-        }
-    }
-
-    /// Forgets the sessions met; those of different keys and IVs have nothing to do with each other.
-    pub fn forget(&mut self) {
-        self.sessions.clear();
     }
 
     pub fn seal(&mut self, key: &[u8], iv: &[u8], ad: &[u8], text: &[u8], out_len: usize, tag_len: usize) -> (u64, Vec<u8>, Vec<u8>) {
@@ -270,144 +240,141 @@ impl Tester {
         (found, our_out)
     }
 
-    pub fn begin_in(&mut self, key: &[u8], iv: &[u8], session_len: usize) -> (u64, Option<Pair>) {
+    /// Gives the session, if accepted.
+    pub fn begin_in(&mut self, key: &[u8], iv: &[u8], session_len: usize) -> (u64, Option<Session>) {
         let (key, iv) = (self.lend("key", key), self.lend("iv", iv));
         let mut session = self.lend_output("session", session_len);
-        let ours = calls::begin(key.lent(), iv.lent(), session_len);
+        let mut ours = session.lent().to_vec();
+        let expected = number(&calls::begin(key.lent(), iv.lent(), &mut ours));
         let found = unsafe { tulvekas_begin(key.read(), key.len(), iv.read(), iv.len(), session.written(), session.len()) };
-        let lent = [(&key, Left::Unchanged), (&iv, Left::Unchanged), (&session, Left::Session)];
-        self.compare("begin", found, number(&ours), &lent);
-        (found, self.met("begin", ours.ok(), &session))
+        let lent = [(&key, Left::Unchanged), (&iv, Left::Unchanged), (&session, Left::Bytes(&ours))];
+        self.compare("begin", found, expected, &lent);
+        (found, (found == 0).then(|| ours[..SESSION_BYTES].try_into().unwrap()))
     }
 
-    /// A session that an accepted call has written.
-    fn met(&mut self, call: &str, ours: Option<Session>, session: &Lent) -> Option<Pair> {
-        let pair = Pair { ours: ours?, theirs: session.contents()[..SESSION_BYTES].try_into().unwrap(), finished_in: None };
-        self.know(call, &pair);
-        Some(pair)
-    }
-
-    pub fn begin(&mut self, key: &[u8], iv: &[u8]) -> Pair {
+    pub fn begin(&mut self, key: &[u8], iv: &[u8]) -> Session {
         self.begin_in(key, iv, SESSION_BYTES).1.unwrap()
     }
 
-    /// The session's bytes as a buffer of another length: cut, or with random bytes behind.
-    fn lend_session(&mut self, pair: &Pair, session_len: usize) -> Lent {
-        let mut bytes = self.random.bytes(session_len);
-        let kept = session_len.min(SESSION_BYTES);
-        bytes[..kept].copy_from_slice(&pair.theirs[..kept]);
-        self.lend("session", &bytes)
+    /// Bytes as a buffer of another length: cut, or with random bytes behind.
+    fn lend_in(&mut self, name: &'static str, bytes: &[u8], len: usize) -> Lent {
+        let mut lent = self.random.bytes(len);
+        let kept = len.min(bytes.len());
+        lent[..kept].copy_from_slice(&bytes[..kept]);
+        self.lend(name, &lent)
     }
 
-    /// Takes over what an accepted call has written to a session.
-    fn moved_on(&mut self, call: &str, pair: &mut Pair, session: &Lent, answer: u64) {
-        if answer == 0 {
-            pair.theirs = session.contents().try_into().unwrap();
-            self.know(call, pair);
-        }
-    }
-
-    pub fn data_in(&mut self, pair: &mut Pair, session_len: usize, piece: &[u8]) -> u64 {
-        let (mut session, piece) = (self.lend_session(pair, session_len), self.lend("piece", piece));
-        let expected = number(&calls::data(&mut pair.ours, session_len, piece.lent()));
-        let found = unsafe { tulvekas_data(session.written(), session.len(), piece.read(), piece.len()) };
-        self.compare("data", found, expected, &[(&session, Left::Session), (&piece, Left::Unchanged)]);
-        self.moved_on("data", pair, &session, found);
+    pub fn data_in(&mut self, session: &mut Session, session_len: usize, piece: &[u8]) -> u64 {
+        let (mut lent, piece) = (self.lend_in("session", session, session_len), self.lend("piece", piece));
+        let mut ours = lent.lent().to_vec();
+        let expected = number(&calls::data(&mut ours, piece.lent()));
+        let found = unsafe { tulvekas_data(lent.written(), lent.len(), piece.read(), piece.len()) };
+        self.compare("data", found, expected, &[(&lent, Left::Bytes(&ours)), (&piece, Left::Unchanged)]);
+        moved_on(session, &ours, found);
         found
     }
 
-    pub fn data(&mut self, pair: &mut Pair, piece: &[u8]) -> u64 {
-        self.data_in(pair, SESSION_BYTES, piece)
+    pub fn data(&mut self, session: &mut Session, piece: &[u8]) -> u64 {
+        self.data_in(session, SESSION_BYTES, piece)
     }
 
     /// Gives the written ciphertext beside the answer.
-    pub fn text_in(&mut self, pair: &mut Pair, session_len: usize, piece: &[u8], out_len: usize) -> (u64, Vec<u8>) {
-        let (mut session, piece) = (self.lend_session(pair, session_len), self.lend("piece", piece));
+    pub fn text_in(&mut self, session: &mut Session, session_len: usize, piece: &[u8], out_len: usize) -> (u64, Vec<u8>) {
+        let (mut lent, piece) = (self.lend_in("session", session, session_len), self.lend("piece", piece));
         let mut out = self.lend_output("out", out_len);
-        let mut our_out = out.lent().to_vec();
-        let expected = number(&calls::text(&mut pair.ours, session_len, piece.lent(), &mut our_out));
-        let found = unsafe { tulvekas_text(session.written(), session.len(), piece.read(), piece.len(), out.written(), out.len()) };
-        let lent = [(&session, Left::Session), (&piece, Left::Unchanged), (&out, Left::Bytes(&our_out))];
-        self.compare("text", found, expected, &lent);
-        self.moved_on("text", pair, &session, found);
+        let (mut ours, mut our_out) = (lent.lent().to_vec(), out.lent().to_vec());
+        let expected = number(&calls::text(&mut ours, piece.lent(), &mut our_out));
+        let found = unsafe { tulvekas_text(lent.written(), lent.len(), piece.read(), piece.len(), out.written(), out.len()) };
+        let left = [(&lent, Left::Bytes(&ours)), (&piece, Left::Unchanged), (&out, Left::Bytes(&our_out))];
+        self.compare("text", found, expected, &left);
+        moved_on(session, &ours, found);
         our_out.truncate(piece.len());
         (found, our_out)
     }
 
-    pub fn text(&mut self, pair: &mut Pair, piece: &[u8]) -> (u64, Vec<u8>) {
+    pub fn text(&mut self, session: &mut Session, piece: &[u8]) -> (u64, Vec<u8>) {
         let spare = if self.random.one_in(2) { 0 } else { self.random.below(40) };
-        self.text_in(pair, SESSION_BYTES, piece, piece.len() + spare)
+        self.text_in(session, SESSION_BYTES, piece, piece.len() + spare)
     }
 
-    pub fn finish_in(&mut self, pair: &mut Pair, session_len: usize, tag_len: usize) -> (u64, Vec<u8>) {
-        let (mut session, mut tag) = (self.lend_session(pair, session_len), self.lend_output("tag", tag_len));
-        let mut our_tag = tag.lent().to_vec();
-        let phase = pair.ours.phase();
-        let expected = number(&calls::finish(&mut pair.ours, session_len, &mut our_tag));
-        let found = unsafe { tulvekas_finish(session.written(), session.len(), tag.written(), tag.len()) };
-        self.compare("finish", found, expected, &[(&session, Left::Session), (&tag, Left::Bytes(&our_tag))]);
-        if found == 0 {
-            pair.finished_in = Some(phase);
-        }
-        self.moved_on("finish", pair, &session, found);
+    pub fn finish_in(&mut self, session: &mut Session, session_len: usize, tag_len: usize) -> (u64, Vec<u8>) {
+        let (mut lent, mut tag) = (self.lend_in("session", session, session_len), self.lend_output("tag", tag_len));
+        let (mut ours, mut our_tag) = (lent.lent().to_vec(), tag.lent().to_vec());
+        let expected = number(&calls::finish(&mut ours, &mut our_tag));
+        let found = unsafe { tulvekas_finish(lent.written(), lent.len(), tag.written(), tag.len()) };
+        self.compare("finish", found, expected, &[(&lent, Left::Bytes(&ours)), (&tag, Left::Bytes(&our_tag))]);
+        moved_on(session, &ours, found);
         our_tag.truncate(16);
         (found, our_tag)
     }
 
-    pub fn finish(&mut self, pair: &mut Pair) -> (u64, Vec<u8>) {
+    pub fn finish(&mut self, session: &mut Session) -> (u64, Vec<u8>) {
         let spare = if self.random.one_in(2) { 0 } else { self.random.below(40) };
-        self.finish_in(pair, SESSION_BYTES, 16 + spare)
+        self.finish_in(session, SESSION_BYTES, 16 + spare)
     }
 
-    pub fn suspend_in(&mut self, pair: &Pair, session_len: usize, block_len: usize) -> (u64, Vec<u8>) {
-        let (session, mut block) = (self.lend_session(pair, session_len), self.lend_output("block", block_len));
+    pub fn suspend_in(&mut self, session: &Session, session_len: usize, block_len: usize) -> (u64, Vec<u8>) {
+        let (lent, mut block) = (self.lend_in("session", session, session_len), self.lend_output("block", block_len));
         let mut our_block = block.lent().to_vec();
-        let expected = number(&calls::suspend(&pair.ours, session_len, &mut our_block));
-        let found = unsafe { tulvekas_suspend(session.read(), session.len(), block.written(), block.len()) };
-        self.compare("suspend", found, expected, &[(&session, Left::Unchanged), (&block, Left::Bytes(&our_block))]);
+        let expected = number(&calls::suspend(lent.lent(), &mut our_block));
+        let found = unsafe { tulvekas_suspend(lent.read(), lent.len(), block.written(), block.len()) };
+        self.compare("suspend", found, expected, &[(&lent, Left::Unchanged), (&block, Left::Bytes(&our_block))]);
         our_block.truncate(512);
         (found, our_block)
     }
 
-    pub fn suspend(&mut self, pair: &Pair) -> [u8; 512] {
+    pub fn suspend(&mut self, session: &Session) -> [u8; 512] {
         let spare = if self.random.one_in(2) { 0 } else { self.random.below(40) };
-        let (answer, block) = self.suspend_in(pair, SESSION_BYTES, 512 + spare);
+        let (answer, block) = self.suspend_in(session, SESSION_BYTES, 512 + spare);
         self.expect("suspend", answer, 0);
         block.try_into().unwrap()
     }
 
     /// Gives the session, if accepted, and the written IV.
-    pub fn resume_in(&mut self, key: &[u8], block: &[u8], session_len: usize, iv_len: usize) -> (u64, Option<Pair>, Vec<u8>) {
+    pub fn resume_in(&mut self, key: &[u8], block: &[u8], session_len: usize, iv_len: usize) -> (u64, Option<Session>, Vec<u8>) {
         let (key, block) = (self.lend("key", key), self.lend("block", block));
         let (mut session, mut iv) = (self.lend_output("session", session_len), self.lend_output("iv", iv_len));
-        let mut our_iv = iv.lent().to_vec();
-        let ours = calls::resume(key.lent(), block.lent(), session_len, &mut our_iv);
+        let (mut ours, mut our_iv) = (session.lent().to_vec(), iv.lent().to_vec());
+        let expected = number(&calls::resume(key.lent(), block.lent(), &mut ours, &mut our_iv));
         let found = unsafe {
             tulvekas_resume(key.read(), key.len(), block.read(), block.len(), session.written(), session.len(), iv.written(), iv.len())
         };
-        let lent = [(&key, Left::Unchanged), (&block, Left::Unchanged), (&session, Left::Session), (&iv, Left::Bytes(&our_iv))];
-        self.compare("resume", found, number(&ours), &lent);
-        let pair = self.met("resume", ours.ok(), &session);
+        let lent = [(&key, Left::Unchanged), (&block, Left::Unchanged), (&session, Left::Bytes(&ours)), (&iv, Left::Bytes(&our_iv))];
+        self.compare("resume", found, expected, &lent);
         our_iv.truncate(16);
-        (found, pair, our_iv)
+        (found, (found == 0).then(|| ours[..SESSION_BYTES].try_into().unwrap()), our_iv)
     }
 
-    pub fn resume(&mut self, key: &[u8], block: &[u8]) -> (u64, Option<Pair>, Vec<u8>) {
+    pub fn resume(&mut self, key: &[u8], block: &[u8]) -> (u64, Option<Session>, Vec<u8>) {
         let (session_spare, iv_spare) = if self.random.one_in(2) { (0, 0) } else { (self.random.below(40), self.random.below(40)) };
         self.resume_in(key, block, SESSION_BYTES + session_spare, 16 + iv_spare)
     }
 
     /// Suspends the session, resumes it and requires the very same one; gives the suspended block.
-    pub fn suspend_and_resume(&mut self, key: &[u8], iv: &[u8], pair: &mut Pair) -> [u8; 512] {
-        let block = self.suspend(pair);
+    pub fn suspend_and_resume(&mut self, key: &[u8], iv: &[u8], session: &Session) -> [u8; 512] {
+        let block = self.suspend(session);
         let (answer, resumed, found_iv) = self.resume(key, &block);
         self.expect("resume", answer, 0);
-        let resumed = resumed.unwrap();
-        if resumed.ours != pair.ours || resumed.theirs != pair.theirs || found_iv != iv {
+        if resumed != Some(*session) || found_iv != iv {
             self.fail("resume", "not the session that was suspended".into());
         }
-        *pair = resumed;
         block
+    }
+
+    /// Gives the written state, or what its buffer held, beside the answer.
+    pub fn state_of_in(&mut self, block: &[u8], state_len: usize) -> (u64, Vec<u8>) {
+        let (block, mut state) = (self.lend("block", block), self.lend_output("state", state_len));
+        let mut our_state = state.lent().to_vec();
+        let expected = number(&calls::state_of(block.lent(), &mut our_state));
+        let found = unsafe { tulvekas_state_of(block.read(), block.len(), state.written(), state.len()) };
+        self.compare("state_of", found, expected, &[(&block, Left::Unchanged), (&state, Left::Bytes(&our_state))]);
+        our_state.truncate(STATE_BYTES);
+        (found, our_state)
+    }
+
+    pub fn state_of(&mut self, block: &[u8]) -> (u64, Vec<u8>) {
+        let spare = if self.random.one_in(2) { 0 } else { self.random.below(40) };
+        self.state_of_in(block, STATE_BYTES + spare)
     }
 
     pub fn keystream(&mut self, key: &[u8], iv: &[u8], sealed: u64, out_len: usize) -> (u64, Vec<u8>) {
@@ -421,22 +388,72 @@ impl Tester {
         (found, our_out)
     }
 
-    pub fn trace_in(&mut self, state: &[u8], key: &[u8], count: u64, iv_len: usize, sealed_len: usize) -> (u64, Vec<u8>, Vec<u8>) {
+    /// Gives the written state, or what its buffer held, beside the answer.
+    pub fn start_in(&mut self, key: &[u8], iv: &[u8], sealed: u64, state_len: usize) -> (u64, Vec<u8>) {
+        let (key, iv) = (self.lend("key", key), self.lend("iv", iv));
+        let mut state = self.lend_output("state", state_len);
+        let mut our_state = state.lent().to_vec();
+        let expected = number(&calls::start(key.lent(), iv.lent(), sealed, &mut our_state));
+        let found = unsafe { tulvekas_start(key.read(), key.len(), iv.read(), iv.len(), sealed, state.written(), state.len()) };
+        let lent = [(&key, Left::Unchanged), (&iv, Left::Unchanged), (&state, Left::Bytes(&our_state))];
+        self.compare("start", found, expected, &lent);
+        our_state.truncate(STATE_BYTES);
+        (found, our_state)
+    }
+
+    pub fn start(&mut self, key: &[u8], iv: &[u8], sealed: u64) -> Vec<u8> {
+        let spare = if self.random.one_in(2) { 0 } else { self.random.below(40) };
+        let (answer, state) = self.start_in(key, iv, sealed, STATE_BYTES + spare);
+        self.expect("start", answer, 0);
+        state
+    }
+
+    /// Moves the state, if accepted, and gives all that is left of the output beside the answer.
+    pub fn run_in(&mut self, state: &mut Vec<u8>, n: u64, back: u64, out_len: usize) -> (u64, Vec<u8>) {
+        let (mut lent, mut out) = (self.lend("state", state), self.lend_output("out", out_len));
+        let (mut ours, mut our_out) = (lent.lent().to_vec(), out.lent().to_vec());
+        let expected = number(&calls::run(&mut ours, n, back, &mut our_out));
+        let found = unsafe { tulvekas_run(lent.written(), lent.len(), n, back, out.written(), out.len()) };
+        let call = format!("run of {n}, back {back}");
+        self.compare(&call, found, expected, &[(&lent, Left::Bytes(&ours)), (&out, Left::Bytes(&our_out))]);
+        *state = ours;
+        (found, our_out)
+    }
+
+    /// Gives the blocks of a run that is accepted.
+    pub fn run(&mut self, state: &mut Vec<u8>, n: u64, back: u64) -> Vec<u8> {
+        let spare = if self.random.one_in(2) { 0 } else { self.random.below(40) };
+        let (answer, mut out) = self.run_in(state, n, back, 16 * n as usize + spare);
+        self.expect("run", answer, 0);
+        out.truncate(16 * n as usize);
+        out
+    }
+
+    pub fn trace_in(&mut self, state: &[u8], key: &[u8], iv_len: usize, sealed_len: usize) -> (u64, Vec<u8>, Vec<u8>) {
         let (state, key) = (self.lend("state", state), self.lend("key", key));
         let (mut iv, mut sealed) = (self.lend_output("iv", iv_len), self.lend_output("sealed", sealed_len));
         let (mut our_iv, mut our_sealed) = (iv.lent().to_vec(), sealed.lent().to_vec());
-        let expected = number(&calls::trace(state.lent(), key.lent(), count, &mut our_iv, &mut our_sealed));
+        let expected = number(&calls::trace(state.lent(), key.lent(), &mut our_iv, &mut our_sealed));
         let found = unsafe {
-            tulvekas_trace(state.read(), state.len(), key.read(), key.len(), count, iv.written(), iv.len(), sealed.written(), sealed.len())
+            tulvekas_trace(state.read(), state.len(), key.read(), key.len(), iv.written(), iv.len(), sealed.written(), sealed.len())
         };
         let lent = [(&state, Left::Unchanged), (&key, Left::Unchanged), (&iv, Left::Bytes(&our_iv)), (&sealed, Left::Bytes(&our_sealed))];
         self.compare("trace", found, expected, &lent);
         (found, our_iv, our_sealed)
     }
 
-    pub fn trace(&mut self, state: &[u8], key: &[u8], count: u64) -> (u64, Vec<u8>, Vec<u8>) {
+    pub fn trace(&mut self, state: &[u8], key: &[u8]) -> (u64, Vec<u8>, Vec<u8>) {
         let (iv_spare, sealed_spare) = if self.random.one_in(2) { (0, 0) } else { (self.random.below(40), self.random.below(40)) };
-        self.trace_in(state, key, count, 16 + iv_spare, 1 + sealed_spare)
+        self.trace_in(state, key, 16 + iv_spare, 1 + sealed_spare)
+    }
+
+    /// Requires that a state is traced to this IV and mode.
+    pub fn traced_to(&mut self, state: &[u8], key: &[u8], iv: &[u8], sealed: u8) {
+        let (answer, found_iv, found_sealed) = self.trace(state, key);
+        self.expect("trace", answer, 0);
+        if found_iv[..16] != *iv || found_sealed[0] != sealed {
+            self.fail("trace", "both find another IV or mode than the state was reached from".into());
+        }
     }
 
     pub fn kept(&mut self, today: u64, departure: u64, kept_len: usize) -> (u64, Vec<u8>) {

@@ -4,7 +4,7 @@
 #![cfg(target_pointer_width = "64")]
 
 use crate::library::*;
-use crate::tester::{Tester, SESSION_BYTES};
+use crate::tester::{Tester, SESSION_BYTES, STATE_BYTES};
 use reference::calls;
 use std::alloc::{alloc_zeroed, dealloc, Layout};
 
@@ -98,8 +98,16 @@ fn lengths_over_32_bits() {
         check("keystream", tulvekas_keystream(zeros, WIDE + 32, v, 16, 1, w, 16), 1);
         check("keystream", tulvekas_keystream(k, 32, zeros, WIDE + 16, 1, w, 16), 2);
         check("keystream", tulvekas_keystream(k, 32, v, 16, 1, w, WIDE + 32), 9);
-        check("trace", tulvekas_trace(zeros, 112, zeros, WIDE + 32, 0, w, 16, o, 1), 1);
-        check("trace", tulvekas_trace(zeros, WIDE + 112, k, 32, 0, w, 16, o, 1), 8);
+        check("start", tulvekas_start(zeros, WIDE + 32, v, 16, 1, w, STATE_BYTES), 1);
+        check("start", tulvekas_start(k, 32, zeros, WIDE + 16, 1, w, STATE_BYTES), 2);
+        check("run", tulvekas_run(w, WIDE + STATE_BYTES, 1, 0, o, 16), 8);
+        check("run", tulvekas_run(o, STATE_BYTES, WIDE as u64, 0, w, MOST), 9);
+        check("run", tulvekas_run(o, STATE_BYTES, WIDE as u64 + 1, 0, w, MOST), 9);
+        check("run", tulvekas_run(o, STATE_BYTES, WIDE as u64, 1, w, MOST), 9);
+        check("run", tulvekas_run(o, STATE_BYTES, 1 << 60, 0, w, MOST), 9);
+        check("trace", tulvekas_trace(zeros, STATE_BYTES, zeros, WIDE + 32, w, 16, o, 1), 1);
+        check("trace", tulvekas_trace(zeros, WIDE + STATE_BYTES, k, 32, w, 16, o, 1), 8);
+        check("state_of", tulvekas_state_of(zeros, WIDE + 512, w, STATE_BYTES), 8);
     }
     written.take_front(&t, "a refused call", 0);
     if other != [0; 1_024] {
@@ -126,25 +134,39 @@ fn accepted(t: &mut Tester, written: &mut Zeros, page: [&[u8]; 6]) {
             t.fail(call, "another output than expected".into());
         }
     };
-    let mut pair = t.begin(key, iv);
+    let begun = t.begin(key, iv);
+    let mut state = t.start(key, iv, 1);
+    let started = state.clone();
+    let mut expected = begun;
     unsafe {
         let (a, x, c, g) = (ad.as_ptr(), text.as_ptr(), cipher.as_ptr(), tag.as_ptr());
         check(t, "seal", tulvekas_seal(k, 32, v, 16, a, ad.len(), x, text.len(), w, WIDE + 3, o, 16), cipher);
         check(t, "seal", tulvekas_seal(k, 32, v, 16, a, ad.len(), x, text.len(), o, 53, w, WIDE + 3), tag);
         check(t, "open", tulvekas_open(k, 32, v, 16, a, ad.len(), c, cipher.len(), g, 16, w, WIDE), text);
-        check(t, "begin", tulvekas_begin(k, 32, v, 16, w, WIDE + 3), &pair.theirs);
-        t.data(&mut pair, ad);
-        session.copy_from_slice(&pair.theirs);
+        check(t, "begin", tulvekas_begin(k, 32, v, 16, w, WIDE + 3), &begun);
+        t.data(&mut expected, ad);
+        session.copy_from_slice(&expected);
         check(t, "text", tulvekas_text(s, SESSION_BYTES, x, text.len(), w, WIDE + 3), cipher);
-        t.text(&mut pair, text);
-        let block = t.suspend(&pair);
+        t.text(&mut expected, text);
+        let block = t.suspend(&expected);
         check(t, "suspend", tulvekas_suspend(s, SESSION_BYTES, w, WIDE + 3), &block);
         let b = block.as_ptr();
-        check(t, "resume", tulvekas_resume(k, 32, b, 512, w, WIDE + 3, o, 16), &pair.theirs);
+        check(t, "resume", tulvekas_resume(k, 32, b, 512, w, WIDE + 3, o, 16), &expected);
         check(t, "resume", tulvekas_resume(k, 32, b, 512, o, SESSION_BYTES, w, WIDE + 3), iv);
-        let count = 2 + text.len().div_ceil(16) as u64;
-        check(t, "trace", tulvekas_trace(b.add(16), 112, k, 32, count, w, WIDE + 3, o, 1), iv);
-        check(t, "trace", tulvekas_trace(b.add(16), 112, k, 32, count, o, 16, w, WIDE), &[1]);
+        let of_block = t.state_of(&block).1;
+        check(t, "state_of", tulvekas_state_of(b, 512, w, WIDE + 3), &of_block);
+        let f = of_block.as_ptr();
+        check(t, "trace", tulvekas_trace(f, STATE_BYTES, k, 32, w, WIDE + 3, o, 1), iv);
+        check(t, "trace", tulvekas_trace(f, STATE_BYTES, k, 32, o, 16, w, WIDE), &[1]);
+        check(t, "start", tulvekas_start(k, 32, v, 16, 1, w, WIDE + 3), &started);
+        let blocks = t.run(&mut state, 5, 0);
+        let mut moved = started.clone();
+        check(t, "run", tulvekas_run(moved.as_mut_ptr(), STATE_BYTES, 5, 0, w, WIDE + 3), &blocks);
+        let blocks = t.run(&mut state, 5, 1);
+        check(t, "run", tulvekas_run(moved.as_mut_ptr(), STATE_BYTES, 5, 1, w, WIDE + 3), &blocks);
+        if moved != started {
+            t.fail("run", "forward and back do not return the state".into());
+        }
         check(t, "finish", tulvekas_finish(s, SESSION_BYTES, w, WIDE + 3), tag);
         check(t, "kept", tulvekas_kept(5, 5, w, WIDE), &[1]);
     }
@@ -153,13 +175,13 @@ fn accepted(t: &mut Tester, written: &mut Zeros, page: [&[u8]; 6]) {
 /// Pieces of more than 2^32 bytes are too long in every session, and it goes on as it was.
 fn refused_pieces(t: &mut Tester, zeros: *const u8, w: *mut u8, key: &[u8], iv: &[u8]) {
     for (data_len, text_len) in [(0, 0), (7, 0), (7, 9)] {
-        let mut pair = t.begin(key, iv);
+        let mut before = t.begin(key, iv);
         let (data, text) = (t.random.bytes(data_len), t.random.bytes(text_len));
-        t.data(&mut pair, &data);
+        t.data(&mut before, &data);
         if text_len > 0 {
-            t.text(&mut pair, &text);
+            t.text(&mut before, &text);
         }
-        let mut session = pair.theirs;
+        let mut session = before;
         let s = session.as_mut_ptr();
         for piece_len in [WIDE, WIDE + 1, WIDE + 16, MOST] {
             let of_data = unsafe { tulvekas_data(s, SESSION_BYTES, zeros, piece_len) };
@@ -167,7 +189,7 @@ fn refused_pieces(t: &mut Tester, zeros: *const u8, w: *mut u8, key: &[u8], iv: 
             answered(t, "data", of_data, if text_len > 0 { 7 } else { 3 });
             answered(t, "text", of_text, 3);
         }
-        if session != pair.theirs {
+        if session != before {
             t.fail("data or text", "a refused piece has changed the session".into());
         }
     }

@@ -14,7 +14,7 @@ use Rattle.cipher.specs.Registers.{IsRegisters}
 use Rattle.cipher.specs.Run.{forward, moves}
 use Rattle.cipher.specs.Step.{sigma}
 use Rattle.cipher.specs.Machine.{registersOf}
-use Rattle.cipher.proofs.Typed.{every-state}
+use Rattle.cipher.proofs.Typed.{every-registers}
 use Rattle.cipher.proofs.Running.{Made, made-none, made-long, made-one, made-all}
 use Rattle.cipher.proofs.Standing.{Standing, Turned, standing-first, batch-z, batch-stands, standing-read, moves-lfsr, next-moves}
 use borrow.Author.Needs.{needs}
@@ -29,7 +29,7 @@ abbrev μ-loop : tie.MeasureT-loop
 μ-loop s table out₀ from n r3₀ t1 t2 l1₀ l2₀ l i₀ out r3 l1 l2 i = n - i
 
 good : (c : tie.Start Inv-loop μ-loop) → IsRegisters (registersOf (c .args .s))
-good c = every-state (c .args .s) _ (c .good .0)
+good c = every-registers (c .args .s) _ (c .good .0)
 
 abbrev begun : tie.At-loop Inv-loop μ-loop → tie.Start Inv-loop μ-loop
 begun c = c .before .before .before .before .before .before .before .before .before .before .before .before .before .before .before

@@ -6,7 +6,7 @@ use lib.Seq.{sets}
 use Rattle.words.specs.Bytes.{part}
 use Rattle.cipher.specs.Run.{forward, moves, made}
 use Rattle.cipher.specs.Machine.{registersOf}
-use Rattle.cipher.proofs.Typed.{every-state}
+use Rattle.cipher.proofs.Typed.{every-registers}
 use Rattle.cipher.proofs.Moves.{made-block, blocks-one}
 use Rattle.words.proofs.Writing.{read-written}
 use borrow.Author.Needs.{needs}
@@ -19,9 +19,9 @@ returns c =
     let s = c .before .before .before .before .before in
     let S = registersOf (s .args .s) in
     let w = c .before .before .before .batch .ensures in
-    let n : length (made forward S) ≡ 16 = made-block forward S (every-state (s .args .s) _ (s .good .0)) .long in
+    let n : length (made forward S) ≡ 16 = made-block forward S (every-registers (s .args .s) _ (s .good .0)) .long in
     record {
-      state = w .0;
+      registers = w .0;
       z = c .load .ensures ∙ ap (part 0 16) (w .1 ∙ ap (sets (replicate 16 0) 0) (blocks-one forward S)) ∙ read-written (replicate 16 0) 0 16 (made forward S) n (omega arith);
     }
 

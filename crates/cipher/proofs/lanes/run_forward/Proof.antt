@@ -7,7 +7,7 @@ use lib.Seq.{sets}
 use Rattle.cipher.specs.Registers.{IsRegisters}
 use Rattle.cipher.specs.Run.{forward, blocks}
 use Rattle.cipher.specs.Machine.{registersOf}
-use Rattle.cipher.proofs.Typed.{every-state}
+use Rattle.cipher.proofs.Typed.{every-registers}
 use Rattle.cipher.proofs.Running.{Made, made-none, made-long, made-more, made-all}
 use borrow.Author.Needs.{needs}
 use Rattle.cipher.proofs.lanes.run_forward.Statement.{statement}
@@ -20,7 +20,7 @@ abbrev μ-loop : tie.MeasureT-loop
 μ-loop rounds out₀ n t₀ i₀ out t i = n - i
 
 good : (c : tie.Start Inv-loop μ-loop) → IsRegisters (registersOf (c .args .s))
-good c = every-state (c .args .s) _ (c .good .0)
+good c = every-registers (c .args .s) _ (c .good .0)
 
 loop-holds : tie.Need-loop-holds Inv-loop μ-loop
 loop-holds c = let s = c .before in made-none forward (registersOf (s .args .s)) (good s) (now (s .args .out)) 0 (s .args .n)

@@ -38,7 +38,7 @@ hold-requires : tie.Need-hold-requires
 hold-requires c κs =
     let q = c .before .before .before .before .pre in
     let e = some (c .before) .1 in
-    (q .0, omega arith, q .2 .of-rounds)
+    (q .0, omega arith, q .2 .of-rounds, omega (arith, q .3))
 
 slice-aggregate-load : tie.Need-slice-aggregate-load
 slice-aggregate-load c = sym (pending-long (c .before .before .before .before .before .before .before))

@@ -8,7 +8,7 @@ use denote.Ref.{now}
 use lib.ListN.{length}
 use Rattle.digest.proofs.Slices.{headOf, tailOf}
 use Rattle.session.specs.Machine.{sessionOf}
-use Rattle.session.proofs.Going.{Going, none, more, whole, Parts, parts, begins, ends, counted}
+use Rattle.session.proofs.Going.{Going, none, more, whole, Parts, parts, begins, ends, counted, drawing}
 use Rattle.session.proofs.blocks.long_text.Statement.{statement}
 use Rattle.session.proofs.blocks.long_text.Tie as tie
 
@@ -51,6 +51,7 @@ full-requires c κs =
       },
       omega arith,
       start .pre .2,
+      drawing (a .s .state .count) (a .s .state .count) 0 (headOf (a .s .text)) n _ (omega arith) h (le-refl _) (start .pre .3),
     )
 
 blocks-requires : tie.Need-blocks-requires
@@ -72,6 +73,7 @@ blocks-requires c κs =
         whole = q .blocks;
       },
       rw (g .key) (start .pre .2),
+      drawing (full .full .result .state .count) (a .s .state .count) (headOf (a .s .text)) (tailOf (a .s .text) n) n _ (q .head-tail) (q .tail-end) (g .draws) (start .pre .3),
     )
 
 few-requires : tie.Need-few-requires
@@ -90,6 +92,7 @@ few-requires c κs =
       },
       ends (a .s .text) (blocks .blocks2 .result .text) n q (g .counts),
       start .pre .2 .of-rounds,
+      drawing (blocks .blocks2 .result .state .count) (a .s .state .count) (tailOf (a .s .text) n) n n _ (q .tail-end) (le-refl n) (g .draws) (start .pre .3),
     )
 
 returns : tie.Need-returns

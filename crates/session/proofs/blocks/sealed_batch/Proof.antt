@@ -16,7 +16,7 @@ use Rattle.cipher.specs.Registers.{IsRegisters}
 use Rattle.cipher.specs.Step.{sigma}
 use Rattle.cipher.specs.Run.{forward, moves}
 use Rattle.cipher.specs.Machine.{registersOf}
-use Rattle.cipher.proofs.Typed.{every-state}
+use Rattle.cipher.proofs.Typed.{every-registers}
 use Rattle.cipher.proofs.Standing.{Standing, Turned, standing-first, batch-z, batch-stands, standing-read, moves-lfsr}
 use Rattle.digest.specs.Sum.{fresh}
 use Rattle.session.proofs.Whole.{Progress, progress-none, progress-more, progress-long}
@@ -32,8 +32,8 @@ Inv-loop h piece out₀ from n rounds table s y₀ z₀ r3₀ t1 t2 l1₀ l2₀ 
 abbrev μ-loop : tie.MeasureT-loop
 μ-loop h piece out₀ from n rounds table s y₀ z₀ r3₀ t1 t2 l1₀ l2₀ m₀ l i₀ out y z r3 l1 l2 m i = n - i
 
-good : (c : tie.Start Inv-loop μ-loop) → IsRegisters (registersOf (c .args .t .state))
-good c = every-state (c .args .t .state) _ (c .good .0 .1 .1 .0)
+good : (c : tie.Start Inv-loop μ-loop) → IsRegisters (registersOf (c .args .t .registers))
+good c = every-registers (c .args .t .registers) _ (c .good .0 .1 .1 .0)
 
 abbrev begun : tie.At-loop Inv-loop μ-loop → tie.Start Inv-loop μ-loop
 begun c = c .before .before .before .before .before .before .before .before .before .before .before .before .before .before .before .before .before .before .before .before
@@ -76,7 +76,7 @@ unfolding moves
 loop-holds c =
     let s = c .before .before .before .before .before .before .before .before .before .before .before .before .before .before .before .before .before .before .before in
     let a = s .args in
-    let S = registersOf (a .t .state) in (
+    let S = registersOf (a .t .registers) in (
       progress-none (bytesOfElement (a .h)) (bytesOfElement (a .t .held .acc)) (now (a .piece)) (now (a .out)) S (good s) (a .from) (a .n) (s .pre .2) _,
       standing-first S (good s) _ _ _ _ refl refl (c .before .before .before .before .store .ensures) (c .before .store2 .ensures),
       refl,
@@ -185,7 +185,7 @@ loop-again c =
     let l = i .before .loop in
     let s = begun (i .before) in
     let a = s .args in
-    let S = registersOf (a .t .state) in
+    let S = registersOf (a .t .registers) in
     let p = i .before .before .before .before .before .before .before .before .taps .ensures .1 in
     let t = turned (c .before .before .before .before .before .before .before .before .before) in
     let x = c .before .before .before .before .before .before .before in (
@@ -206,7 +206,7 @@ returns c =
     let l = c .before .before .before .before .before in
     let s = begun l in
     let a = s .args in
-    let S = registersOf (a .t .state) in
+    let S = registersOf (a .t .registers) in
     let e : l .loop .i ≡ a .n = omega (arith, l .loop .inv .0 .at-most, c .before .before .before .before .loop-test .left) in
     let v = subst (λ (k : ℕ). Progress (bytesOfElement (a .h)) (bytesOfElement (a .t .held .acc)) (now (a .piece)) (now (a .out)) S (a .from) (a .n) k (bytesOfElement (l .loop .y)) (l .loop .out) (bytesOf (l .loop .z))) e (l .loop .inv .0) in
     let st = subst (λ (k : ℕ). Standing (moves forward k S) (16 * k) (l .loop .l1) (l .loop .l2) (bytesOf (l .loop .r3))) e (l .loop .inv .1) in

@@ -21,7 +21,7 @@ use Rattle.session.proofs.lent.apply_keystream.Tie as tie
 
 abbrev Inv-loop : tie.InvT-loop
 Inv-loop input out₀ rounds n to state₀ stream₀ i₀ out state stream i =
-    ((s : Session) → registersOf state₀ ≡ s .registers → IsRegisters (registersOf state₀) → s .text % 16 ≡ 0 → Streaming s input out₀ out (registersOf state) i)
+    ((s : Session) → registersOf state₀ ≡ s .state .registers → IsRegisters (registersOf state₀) → s .text % 16 ≡ 0 → Streaming s input out₀ out (registersOf state) i)
     × (i ≤ to) × (i % 16 ≡ 0) × (length stream ≡ 256)
 
 abbrev μ-loop : tie.MeasureT-loop
@@ -31,16 +31,16 @@ loop-holds : tie.Need-loop-holds Inv-loop μ-loop
 loop-holds c = ((λ s e g h. begun s _ _ _ e g h), omega arith, refl, refl)
 
 -- the session that is given is one of them
-given : (c : tie.At-loop Inv-loop μ-loop) → let a = c .before .before .before .before .args in Streaming (sessionOf (a .s)) (now (a .input)) (now (a .out)) (c .loop .out) (registersOf (c .loop .state)) (c .loop .i)
+given : (c : tie.At-loop Inv-loop μ-loop) → let a = c .before .before .before .before .before .args in Streaming (sessionOf (a .s)) (now (a .input)) (now (a .out)) (c .loop .out) (registersOf (c .loop .registers)) (c .loop .i)
 given c =
-    let start = c .before .before .before .before in
+    let start = c .before .before .before .before .before in
     c .loop .inv .0 (sessionOf (start .args .s)) refl (every-state (start .args .s .state) _ (start .good .0 .1 .1 .1 .1 .1 .1 .1 .1 .1 .0)) (start .pre .0)
 
 short : (c : tie.After-slice-known Inv-loop μ-loop) → length (now (c .before .before .args .input)) < 2 ^ 64
 short c = omega arith
 
 -- k blocks stay within the input
-left : (c : tie.After-at-most Inv-loop μ-loop) → let l = c .before .before .loop in let n = length (now (c .before .before .before .before .before .before .args .input)) in let k = c .at-most .result in
+left : (c : tie.After-at-most Inv-loop μ-loop) → let l = c .before .before .loop in let n = length (now (c .before .before .before .before .before .before .before .args .input)) in let k = c .at-most .result in
     (0 < k) × (l .i + 16 * k ≤ n / 16 * 16)
 left c =
     let l = c .before .before .loop in
@@ -54,7 +54,7 @@ room : (c : tie.After-at-most Inv-loop μ-loop) → c .before .before .loop .i +
 room c =
     let g = given (c .before .before) .going .size in
     let k = left c .1 in
-    let h = c .before .before .before .before .before .before .pre .1 in
+    let h = c .before .before .before .before .before .before .before .pre .1 in
     omega arith
 
 slice-aggregate-batch : tie.Need-slice-aggregate-batch Inv-loop μ-loop
@@ -64,13 +64,13 @@ batch-requires : tie.Need-batch-requires Inv-loop μ-loop
 batch-requires c κs =
     let h = c .before .at-most .ensures .0 in
     let k = c .before .before .before .loop .inv .3 in
-    (h, omega arith, c .before .before .before .before .before .before .before .pre .2)
+    (h, omega arith, c .before .before .before .before .before .before .before .before .pre .2)
 
 -- the array of keystream keeps its length
 kept : (c : tie.After-batch Inv-loop μ-loop) → length (c .batch .last .1 .1 .0) ≡ 256
 kept c =
     let l = c .before .before .before .before .loop in
-    ap length (c .batch .ensures .1) ∙ length-sets (l .stream) 0 (blocks forward (c .before .before .at-most .result) (registersOf (l .state))) ∙ l .inv .3
+    ap length (c .batch .ensures .1) ∙ length-sets (l .stream) 0 (blocks forward (c .before .before .at-most .result) (registersOf (l .registers))) ∙ l .inv .3
 
 slice-aggregate-under-keystream : tie.Need-slice-aggregate-under-keystream Inv-loop μ-loop
 slice-aggregate-under-keystream c = sym (kept (c .before .before))
@@ -90,7 +90,7 @@ loop-again c =
     let b = c .before .before .before .before .before .before in
     let next = b .before .before in
     let l = next .before .before .loop in
-    let start = next .before .before .before .before .before .before in
+    let start = next .before .before .before .before .before .before .before in
     let p = now (start .args .input) in
     let k = next .at-most .result in
     let w = b .batch .ensures in
@@ -98,13 +98,13 @@ loop-again c =
     let h = left next in
     let read : l .i + 16 * k ≤ length p = omega (arith, h .1) in
     let fits : 16 * k ≤ length (l .stream) = omega (arith, next .at-most .ensures .0, l .inv .3) in
-    let eo = under-drawn p (l .out) (l .stream) (registersOf (l .state)) (l .i) k (g .good) fits (w .1) (c .before .before .under-keystream .ensures) in
+    let eo = under-drawn p (l .out) (l .stream) (registersOf (l .registers)) (l .i) k (g .good) fits (w .1) (c .before .before .under-keystream .ensures) in
     ((λ s e q z. stream-blocks (l .inv .0 s e q z) _ k read eo _ (w .0)), h .1, omega (arith, l .inv .2), kept b)
 
 under-requires : tie.Need-under-requires Inv-loop μ-loop
 under-requires c κs =
     let done = c .before .before .before .before .before in
-    let start = done .before .before .before .before .before in
+    let start = done .before .before .before .before .before .before in
     let g = given (done .before) .going in
     (record { ordered = omega arith; read = omega arith; room = omega (arith, g .size, start .pre .1); counts = omega arith }, omega arith)
 
@@ -120,18 +120,18 @@ returns c =
     let u = c .before .before in
     let w = u .before .before .before .before in
     let done = w .before .before in
-    let start = done .before .before .before .before .before in
+    let start = done .before .before .before .before .before .before in
     let l = done .before .loop in
     let p = now (start .args .input) in
     let g = given (done .before) in
-    let key : u .before .before .to-bytes .result ≡ z (registersOf (l .state)) = u .before .before .to-bytes .ensures ∙ w .forward .ensures .z in
-    let eo : u .under .last .1 .1 .1 .1 .0 ≡ sets (l .out) (l .i) (xors (slice (l .i) (length p) p) (z (registersOf (l .state)))) =
+    let key : u .before .before .to-bytes .result ≡ z (registersOf (l .registers)) = u .before .before .to-bytes .ensures ∙ w .forward .ensures .z in
+    let eo : u .under .last .1 .1 .1 .1 .0 ≡ sets (l .out) (l .i) (xors (slice (l .i) (length p) p) (z (registersOf (l .registers)))) =
     u .under .ensures .1 ∙ ap (λ (k : List ℕ). sets (l .out) (l .i) (xors (slice (l .i) (length p) p) k)) key in
     stream-end g _ (length p) (w .before .if1 .taken) (omega (arith, done .loop-test .left)) refl eo (start .pre .1)
 
 returns-2 : tie.Need-returns-2 Inv-loop μ-loop
 returns-2 c =
-    let start = c .before .before .before .before .before .before in
+    let start = c .before .before .before .before .before .before .before in
     let g = given (c .before .before) in
     let e : c .before .before .loop .i ≡ length (now (start .args .input)) = omega (arith, g .going .bound) in
     stream-done g e (start .pre .1)
@@ -151,7 +151,7 @@ apply-keystream-spec =
     slice-aggregate-under-keystream
     under-keystream-requires
     (λ c. omega (arith, c .before .before .before .before .before .before .before .before .at-most .ensures .0))
-    (λ c. omega (arith, left (c .before .before .before .before .before .before .before .before) .1, short (c .before .before .before .before .before .before .before .before .before .before .before .before)))
+    (λ c. omega (arith, left (c .before .before .before .before .before .before .before .before) .1, short (c .before .before .before .before .before .before .before .before .before .before .before .before .before)))
     (λ c. let k = left (c .before .before .before .before .before .before .before .before) in omega (arith, k .0, k .1))
     loop-again
     (λ c κs. search needs)

@@ -5,7 +5,7 @@ use borrow.Author.Needs.{needs}
 use denote.Ref.{now}
 use Rattle.session.specs.Session.{Session}
 use Rattle.session.specs.Machine.{sessionOf}
-use Rattle.session.proofs.Pieces.{closed-h, closed-count, closed-piece}
+use Rattle.session.proofs.Pieces.{closed-h, closed-count, closed-drawn, closed-piece}
 use Rattle.session.proofs.lent.text_with.Statement.{statement}
 use Rattle.session.proofs.lent.text_with.Tie as tie
 
@@ -13,11 +13,15 @@ use Rattle.session.proofs.lent.text_with.Tie as tie
 same-text : (c : tie.After-close-with) → c .close-with .result .text ≡ c .before .before .before .args .s .text
 same-text c = closed-count (sessionOf (c .before .before .before .args .s)) (sessionOf (c .close-with .result)) (c .close-with .ensures)
 
+-- and the state
+same-count : (c : tie.After-close-with) → c .close-with .result .state .count ≡ c .before .before .before .args .s .state .count
+same-count c = closed-drawn (sessionOf (c .before .before .before .args .s)) (sessionOf (c .close-with .result)) (c .close-with .ensures)
+
 short-text-requires : tie.Need-short-text-requires
 short-text-requires c κs =
     let closed = c .before .before .before in
     let e = same-text closed in
-    (rw e (closed .before .before .before .pre .0), rw e (omega arith), closed .before .before .before .pre .1 .of-rounds)
+    (rw e (closed .before .before .before .pre .0), rw e (omega arith), closed .before .before .before .pre .1 .of-rounds, rw (same-count closed) (closed .before .before .before .pre .2))
 
 returns : tie.Need-returns
 returns c =
@@ -31,7 +35,7 @@ long-text-requires c κs =
     let start = closed .before .before .before in
     let e = same-text closed in
     let h = ap (λ (u : Session). u .h) (closed .close-with .ensures) ∙ closed-h (sessionOf (start .args .s)) in
-    (rw e (start .pre .0), rw e (omega arith), rw h (start .pre .1))
+    (rw e (start .pre .0), rw e (omega arith), rw h (start .pre .1), rw (same-count closed) (start .pre .2))
 
 returns-2 : tie.Need-returns-2
 returns-2 c =

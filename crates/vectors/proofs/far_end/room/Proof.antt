@@ -6,7 +6,7 @@ use Rattle.vectors.proofs.far_end.room.Statement.{statement}
 use Rattle.vectors.proofs.far_end.room.Tie as tie
 
 returns : tie.Need-returns
-returns c = sym (length-replicate {A = ℕ} 1048608 0)
+returns c = sym (length-replicate {A = ℕ} 1048624 0x5a)
 
 pub room-spec : {M : Type 1} → statement M
 room-spec = tie.close (tie.spec returns)

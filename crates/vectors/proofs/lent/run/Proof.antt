@@ -43,9 +43,9 @@ use denote.Triple.Spec.{Meets, tripleOf}
 use denote.Triple.Table.{entered, cited}
 use denote.Triple.Walked.{needs, Stays, stay-none, gave-ref, gave-slice, goes-none, goes-gave-ref, goes-gave-slice, walkOf, onExit, Walks, ends-at, walked, walk-meets}
 use denote.Exit.{yes}
-use Rattle.cipher.specs.Registers.{Registers}
-use Rattle.cipher.specs.Run.{run-number, run-registers, run-part}
-use Rattle.cipher.specs.Machine.{registersOf}
+use Rattle.cipher.specs.State as definition
+use Rattle.cipher.specs.State.{run-number, run-state, run-part}
+use Rattle.cipher.specs.Machine.{stateOf}
 use Rattle.cipher.specs.Lent.{front-of}
 use Rattle.cipher.specs.declared.State.{State}
 use Rattle.cipher.specs.declared.Ran.{Ran}
@@ -116,19 +116,19 @@ module _ {M : Type 1} (𝓤 : URA M) (H : Heap 𝓤) (A : Atoms 𝓤) (W : Given
   abbrev Post : Val → SProp 𝓤
   Post = walkOf 𝓤 H A run′.ended stayed (run′.clauses 𝓤 H A at-mem run) .post bound
 
-  -- the registers after the run, the answer, and the part
-  abbrev registers : Registers
-  registers = run-registers back (registersOf h) (length xs) n
+  -- the state after the run, the answer, and the part
+  abbrev after : definition.State
+  after = run-state back (stateOf h) (length xs) n
 
   abbrev number : ℕ
-  number = run-number (length xs) n
+  number = run-number back (h .count) (length xs) n
 
   abbrev part : List ℕ
-  part = run-part back (registersOf h) (length xs) n
+  part = run-part back (stateOf h) (length xs) n
 
   -- the clauses of `ensures` at the last state d, the length k of the part, the last answer w and the last list ys, and what the types own at exit
   abbrev Ensured : State → ℕ → ℕ → List ℕ → SProp 𝓤
-  Ensured d k w ys = sep 𝓤 (fact 𝓤 (registersOf d ≡ registers)) (sep 𝓤 (fact 𝓤 (k ≡ length part)) (sep 𝓤 (fact 𝓤 (w ≡ number))
+  Ensured d k w ys = sep 𝓤 (fact 𝓤 (stateOf d ≡ after)) (sep 𝓤 (fact 𝓤 (k ≡ length part)) (sep 𝓤 (fact 𝓤 (w ≡ number))
       (fact 𝓤 (ys ≡ part ++ drop-list k xs))))
 
   abbrev OnExit : State → ℕ → ℕ → List ℕ → SProp 𝓤
@@ -138,7 +138,7 @@ module _ {M : Type 1} (𝓤 : URA M) (H : Heap 𝓤) (A : Atoms 𝓤) (W : Given
   abbrev Left : ℕ → List ℕ → List (Item 𝓤)
   Left w ys = (‵ (flft κ₀ q₀) ⊛ ‵ (flft κ₁ q₁) ⊛ ‵ ftrue) ∷ ‵ (finally u8 γ₁ ys) ∷ ‵ (fres γ₀ (u64 .coded .code w)) ∷ []
 
-  exits : (d : State) (k w : ℕ) (ys : List ℕ) → IsState d → k < 2 ^ 64 → registersOf d ≡ registers → k ≡ length part → w ≡ number → ys ≡ part ++ drop-list k xs
+  exits : (d : State) (k w : ℕ) (ys : List ℕ) → IsState d → k < 2 ^ 64 → stateOf d ≡ after → k ≡ length part → w ≡ number → ys ≡ part ++ drop-list k xs
       → length ys ≡ length xs → ent 𝓤 (⋆ 𝓤 H A (Left w ys)) (Post (LL.val P.the-type P′.the-laws (ran d k)))
   exits d k w ys is fits e₁ e₂ e₃ e₄ long =
       qed W (Left w ys) ∵ suffices ! (sep 𝓤 (Ensured d k w ys) (OnExit d k w ys))
@@ -146,7 +146,7 @@ module _ {M : Type 1} (𝓤 : URA M) (H : Heap 𝓤) (A : Atoms 𝓤) (W : Given
       (ends-at 𝓤 H A run′.ended stayed (run′.clauses 𝓤 H A at-mem run) W bound (LL.val P.the-type P′.the-laws (ran d k)) (ran d k)
       (tt, (w, (ys, (tt, (tt, tt))))) (tt, (tt, (long, (tt, (tt, tt))))))) $
       use0 W (raw (fact 𝓤 (ys ≡ part ++ drop-list k xs))) (factI 𝓤 _ (emp 𝓤) e₄) $ use0 W (raw (fact 𝓤 (w ≡ number))) (factI 𝓤 _ (emp 𝓤) e₃) $ join ! $
-      use0 W (raw (fact 𝓤 (k ≡ length part))) (factI 𝓤 _ (emp 𝓤) e₂) $ join ! $ use0 W (raw (fact 𝓤 (registersOf d ≡ registers))) (factI 𝓤 _ (emp 𝓤) e₁) $ join ! $
+      use0 W (raw (fact 𝓤 (k ≡ length part))) (factI 𝓤 _ (emp 𝓤) e₂) $ join ! $ use0 W (raw (fact 𝓤 (stateOf d ≡ after))) (factI 𝓤 _ (emp 𝓤) e₁) $ join ! $
       frame ! $ frame ! $
       -- [the output's last list; the answer's last value]
       nothing ! $ owned ! bool (Is bool) (bool-makes 𝓤 H A W) back _ refl $ fjoin ! $
@@ -191,7 +191,7 @@ module _ {M : Type 1} (𝓤 : URA M) (H : Heap 𝓤) (A : Atoms 𝓤) (W : Given
   module _ (tight : length xs ≤ 16 * n) (C : Calls 𝓤 H) (Λ : Loops 𝓤 H) (fm : FmC 𝓤 H (W .laws) C) (known : Triple 𝓤 (C #cipher·run) (Callee 𝓤 H A at-mem run)) where
     fits-in : (r : RefT (List ℕ)) → now r ≡ part → (length (now r) ≤ length xs) × (length (now r) < length xs → length (now r) ≡ 0)
     fits-in r e = subst (λ (l : List ℕ). (length l ≤ length xs) × (length l < length xs → length l ≡ 0)) (sym e)
-        (all-or-none back (registersOf h) xs n (every-state h _ was) tight)
+        (all-or-none back (stateOf h) xs n (every-state h _ was) tight)
 
     walk : ent 𝓤 (onEntry 𝓤 H A run′.signature (κ₀, (κ₁, tt)) (q₀, (q₁, tt)) x at)
         (WpFn 𝓤 H C Λ code.function (state-val h ∷ vptr b₀ o₀ ∷ s ∷ vint w64 n ∷ vbool back ∷ []) Post)
@@ -230,9 +230,9 @@ module _ {M : Type 1} (𝓤 : URA M) (H : Heap 𝓤) (A : Atoms 𝓤) (W : Given
         -- what `cipher::run` ensures, at some last values
         split ! $ move ! (1 ∷ []) $ use1 W (some (λ (ws : State × (ℕ × (Unit {0} × (Unit {0} × (Unit {0} × Unit {0}))))).
         ‵ (lasts callee.ended (ν ∷ [], (κ₀, (κ₁, tt))) (passed l₆ δ) ws)
-        ⊛ raw (fact 𝓤 (registersOf (ws .0) ≡ registers)) ⊛ raw (fact 𝓤 (ws .1 .0 ≡ number)) ⊛ raw (fact 𝓤 (Part r))
+        ⊛ raw (fact 𝓤 (stateOf (ws .0) ≡ after)) ⊛ raw (fact 𝓤 (ws .1 .0 ≡ number)) ⊛ raw (fact 𝓤 (Part r))
         ⊛ raw (front-of 𝓤 A out r (drop-list (length (now r)) xs)))) (id⊢ 𝓤 _) $ pick ! (λ ws.
-        split ! $ move ! (1 ∷ []) $ split ! $ heard ! (registersOf (ws .0) ≡ registers) (λ e₁. split ! $ heard ! (ws .1 .0 ≡ number) (λ e₂. split ! $
+        split ! $ move ! (1 ∷ []) $ split ! $ heard ! (stateOf (ws .0) ≡ after) (λ e₁. split ! $ heard ! (ws .1 .0 ≡ number) (λ e₂. split ! $
         heard ! (Part r) (λ e₃. move ! (1 ∷ []) $ fsplit ! $ move ! (1 ∷ []) $ fsplit ! $ move ! (1 ∷ []) $ drop ! $
         -- [the answer's last value; the last state; what ties the output to the part; the tokens with the part; the lender's part; _13; …]
         move ! (3 ∷ []) $ split ! $ move ! (1 ∷ []) $ peeks ! (MutSlice erased κ₁ u8) (Is (MutSlice erased κ₁ u8)) (shows 𝓤 H A (MutSlice erased κ₁ u8)) r (u ∷ []) (λ at-r.

@@ -14,7 +14,7 @@ abbrev μ-loop : tie.MeasureT-loop
 μ-loop table low out₀ s₀ i₀ out s i = 16 - i
 
 initials-requires : tie.Need-initials-requires Inv-loop μ-loop
-initials-requires c κs = (omega arith, c .before .before .before .before .before .before .before .before .before .before .before .before .before .before .before .before .table .ensures)
+initials-requires c κs = (omega arith, c .before .before .before .before .before .before .before .before .before .before .before .before .before .before .table .ensures)
 
 pub initialisation-spec : {M : Type 1} → statement M
 initialisation-spec =
@@ -31,7 +31,6 @@ initialisation-spec =
     (λ c κs. search needs)
     (λ c κs. search needs)
     (λ c. search needs)
-    (λ c κs. search needs)
     (λ c. search needs)
     (λ c. search needs)
     (λ c κs. search needs)

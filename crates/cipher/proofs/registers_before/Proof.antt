@@ -1,4 +1,4 @@
--- `cipher::state_before` meets its contract: each part of the code is the definition's.
+-- `cipher::registers_before` meets its contract: each part of the code is the definition's.
 use mathlib.Core.Path.{ap, ap₂, _∙_}
 use lib.ListN.{take}
 use Rattle.words.specs.Xor.{xors}
@@ -7,8 +7,8 @@ use Rattle.words.specs.Differences.{_⊟_}
 use Rattle.lfsr.specs.Clock.{Lfsr}
 use Rattle.cipher.specs.Back.{back}
 use borrow.Author.Needs.{needs}
-use Rattle.cipher.proofs.state_before.Statement.{statement}
-use Rattle.cipher.proofs.state_before.Tie as tie
+use Rattle.cipher.proofs.registers_before.Statement.{statement}
+use Rattle.cipher.proofs.registers_before.Tie as tie
 
 returns : tie.Need-returns
 unfolding back
@@ -27,6 +27,6 @@ returns c =
           ∙ ap₂ xors (m .minus .ensures ∙ ap₂ _⊟_ (g .sigma .ensures) (p .r2)) (h .low-half .ensures ∙ ap (λ (l : Lfsr). littles 2 (take 8 (l .a))) o)) i;
     }
 
-pub state-before-spec : {M : Type 1} → statement M
-state-before-spec =
+pub registers-before-spec : {M : Type 1} → statement M
+registers-before-spec =
     tie.close (tie.spec (λ c κs. search needs) (λ c κs. search needs) (λ c κs. search needs) (λ c κs. search needs) (λ c κs. search needs) returns)
