@@ -3,11 +3,12 @@
 use mathlib.Core.Path.{_≡_, refl, sym, ap, ap₂, _∙_}
 use mathlib.Core.Bool.{Bool, true, false, not}
 use mathlib.Core.List.{List, [], _∷_, _++_, append-assoc, append-nil}
-use Prim.Native.Nat.{ℕ, zero, suc, _+_, _*_}
+use Prim.Native.Nat.{ℕ, zero, suc, _+_, _-_, _*_, _≤_}
 use native.Mathlib.Omega.{arith}
 use native.Mathlib.Nat.{add-zero, add-suc}
-use lib.ListN.{length, length-append}
-use Rattle.words.specs.Bytes.{IsBlock, joined}
+use lib.ListN.{length, take, length-append}
+use lib.Seq.{take-at, drop-at}
+use Rattle.words.specs.Bytes.{IsBlock, part, joined}
 use Rattle.cipher.specs.Registers.{Registers, IsRegisters}
 use Rattle.cipher.specs.Step.{z}
 use Rattle.cipher.specs.Back.{back}
@@ -116,3 +117,15 @@ blocks-length d (suc n) s g =
     let h : length (made d (moves d n s)) ≡ 16 = made-block d (moves d n s) (moves-good d n s g) .long in
     let ih = blocks-length d n s g in
     ap length e ∙ f ∙ omega (arith, h, ih)
+
+-- k of n blocks, from block i on
+pub blocks-part : (d : Bool) (i k n : ℕ) (s : Registers) → IsRegisters s → i + k ≤ n → part (16 * i) (16 * k) (blocks d n s) ≡ blocks d k (moves d i s)
+blocks-part d i k n s g h =
+    let m = n - (i + k) in
+    let e : n ≡ i + (k + m) = omega arith in
+    let t = moves d i s in
+    ap (λ (j : ℕ). part (16 * i) (16 * k) (blocks d j s)) e
+    ∙ ap (part (16 * i) (16 * k)) (blocks-add d i (k + m) s)
+    ∙ ap (take (16 * k)) (drop-at (blocks d i s) (blocks d (k + m) t) (16 * i) (blocks-length d i s g))
+    ∙ ap (take (16 * k)) (blocks-add d k m t)
+    ∙ take-at (blocks d k t) (blocks d m (moves d k t)) (16 * k) (blocks-length d k t (moves-good d i s g))

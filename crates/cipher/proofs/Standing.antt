@@ -96,7 +96,7 @@ module _ (s : Registers) (g : IsRegisters s) (at : ℕ) {l1 l2 r3 m1 m2 n3 block
         in-r3 = t .makes3 ∙ ap round (st .in-r2);
       }
 
--- ---- the pass of A and B
+-- ---- the sweep of A and B
 
 pub tapped-none : (l : Lfsr) (t1 t2 : List ℕ) → length t1 ≡ 128 → length t2 ≡ 128 → Tapped l 0 t1 t2
 tapped-none l t1 t2 e1 e2 = record { long1 = e1; long2 = e2; first = λ i h. absurd (omega arith); second = λ i h. absurd (omega arith) }

@@ -1,4 +1,4 @@
-// Many steps, in batches of at most 16, each in two passes. In the first A and B are clocked and leave T1 and T2 of every step in lanes, arrays of cells; alone
+// Many steps, in batches of at most 16, each in two sweeps. In the first A and B are clocked and leave T1 and T2 of every step in lanes, arrays of cells; alone
 // in its loop, the clock goes by vectors of cells. In the second R1 and R2 of every step stand in lanes of bytes, from which the rounds read byte by byte:
 // as words they would not all stay in the processor. The loops of `start` and `session` are over the same small functions.
 ghost use mathlib.Core.Path.{_≡_};
@@ -43,7 +43,7 @@ fn leave(t: &mut [u16; 128], at: usize, c: [u16; 16], from: usize)
     }
 }
 
-// The first pass: n steps of A and B. What the lanes have behind those steps is left open.
+// The first sweep: n steps of A and B. What the lanes have behind those steps is left open.
 pub fn taps(l: Lfsr, t1: &mut [u16; 128], t2: &mut [u16; 128], n: usize) -> Lfsr
     requires { ⌜ (n ≤ 16) × (length (now t1) ≡ 128) × (length (now t2) ≡ 128) ⌝ }
     ensures lfsr { λ r. ⌜ lfsrOf r ≡ clocked n (lfsrOf l) ⌝ }

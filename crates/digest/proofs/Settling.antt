@@ -10,15 +10,11 @@ use borrow.Author.Tests.{ne-eqb}
 use lib.ListN.{length, drop, replicate, length-append, length-drop, length-replicate, take-append-drop}
 use lib.Seq.{sets, sets-eq, length-take-le}
 use Rattle.words.specs.Bytes.{zeros}
-use Rattle.ghash.specs.Hash.{eat, eats, blocks-of, hashFrom, whole-blocks, rest}
+use Rattle.ghash.specs.Hash.{eat, eats, blocks-of, hashFrom, whole-blocks, rest, padded}
 use Rattle.ghash.proofs.Hashing.{hash-append, hash-one}
 use Rattle.digest.specs.Sum.{Sum, fresh}
 use Rattle.digest.specs.Digest.{absorb, settled}
 use Rattle.digest.proofs.Pieces.{sum, absorb-rest}
-
--- zeros behind s up to a whole number of blocks
-abbrev pub padding : List ℕ → List ℕ
-padding s = replicate ((16 - length s % 16) % 16) 0
 
 pub drop-replicate : (n m a : ℕ) → drop n (replicate m a) ≡ replicate (m - n) a
 drop-replicate zero m a = rw sub-zero
@@ -80,13 +76,14 @@ pub settled-held : (h : List ℕ) (y : Sum) (n : ℕ) → (n % 16 ≡ 0 → ⊥)
 unfolding settled
 settled-held h y n e = rw (ne-eqb (n % 16) 0 e)
 
-pub padded-whole : (s : List ℕ) → length (s ++ padding s) % 16 ≡ 0
-padded-whole s = simp (length-append, length-replicate) (omega arith)
+-- a short block at the front of a block of zeros
+pub sets-padded : (s : List ℕ) → 0 < length s → length s < 16 → sets zeros 0 s ≡ padded s
+sets-padded s h k = sets-zeros s (omega arith) ∙ ap (λ (n : ℕ). s ++ replicate n 0) (let e : 16 - length s ≡ (16 - length s % 16) % 16 = omega arith in e)
 
-pub settled-padded : (h y s : List ℕ) → settled h (absorb h (fresh y) 0 s) (length s) ≡ hashFrom h y (s ++ padding s)
+pub settled-padded : (h y s : List ℕ) → settled h (absorb h (fresh y) 0 s) (length s) ≡ hashFrom h y (padded s)
 settled-padded h y s = go (ℕ-discrete (length s % 16) 0)
   where
-    go : Dec (length s % 16 ≡ 0) → settled h (absorb h (fresh y) 0 s) (length s) ≡ hashFrom h y (s ++ padding s)
+    go : Dec (length s % 16 ≡ 0) → settled h (absorb h (fresh y) 0 s) (length s) ≡ hashFrom h y (padded s)
     go (yes e) = settled-whole h (absorb h (fresh y) 0 s) (length s) e ∙ absorb-hash h y s ∙ rw (e, append-nil s)
     go (no e) =
         let n : (16 - length s % 16) % 16 ≡ 16 - length s % 16 = omega arith in

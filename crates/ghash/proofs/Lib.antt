@@ -5,5 +5,6 @@ pub mod Places
 pub mod Filling
 pub mod Reading
 pub mod Hashing
+pub mod Padding
 pub mod Cases
 pub mod Typed

@@ -1,8 +1,8 @@
 -- GHASH of a string of bytes, NIST SP 800-38D, section 6.4: Algorithm 2. A block is 16 bytes here, and byte 0 is its leftmost, as document 01,
--- "Tag arithmetic", has it. Strings that are no whole number of blocks are left out: whoever hashes pads first.
-use Prim.Native.Nat.{ℕ, zero, suc, _+_, _*_, _/_, _%_, _^_}
+-- "Tag arithmetic", has it. Strings that are no whole number of blocks are left out: whoever hashes pads first (`padded`).
+use Prim.Native.Nat.{ℕ, zero, suc, _+_, _-_, _*_, _/_, _%_, _^_}
 use mathlib.Core.List.{List, [], _∷_, _++_}
-use lib.ListN.{length, take, drop}
+use lib.ListN.{length, take, drop, replicate}
 use Rattle.words.specs.Xor.{xors}
 use Rattle.words.specs.Bytes.{zeros}
 use Rattle.ghash.specs.Field.{product}
@@ -51,6 +51,14 @@ whole-blocks s = take (length s / 16 * 16) s
 
 abbrev pub rest : List ℕ → List ℕ
 rest s = drop (length s / 16 * 16) s
+
+-- blocks that hold n bytes
+abbrev pub ceil16 : ℕ → ℕ
+ceil16 n = (n + 15) / 16
+
+-- zeros behind a string up to a whole number of blocks, as section 7.1 puts them behind data and ciphertext
+abbrev pub padded : List ℕ → List ℕ
+padded s = s ++ replicate ((16 - length s % 16) % 16) 0
 
 -- GHASH under H: from the zero block on
 abbrev pub ghash : (h s : List ℕ) → List ℕ

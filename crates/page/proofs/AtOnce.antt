@@ -1,4 +1,4 @@
--- A page at once goes through the stages of a session: begun, all the data in, all the text in. One table of H serves them all, since H is block
+-- A page at once goes through the stages of a session: begun, all the data in, the data closed. One table of H serves them all, since H is block
 -- 0 of the keystream at every stage.
 use mathlib.Core.Path.{_≡_, refl, sym, ap, subst, _∙_}
 use mathlib.Core.List.{List, [], _++_}
@@ -9,10 +9,10 @@ use Rattle.session.specs.declared.Session as machine
 use Rattle.session.specs.Session.{Session}
 use Rattle.session.specs.Machine.{sessionOf}
 use Rattle.session.specs.Calls.{Given, begin-call}
-use Rattle.session.specs.Pieces.{data-taken, closed, text-taken, text-out}
+use Rattle.session.specs.Pieces.{data-taken, closed, text-out}
 use Rattle.start.specs.Start.{sealed-keystream}
 use Rattle.page.specs.Page.{cipher-of}
-use Rattle.page.proofs.Stages.{Stage, Stage.taking-data, Stage.taking-text, session-at, data-at, closed-at, text-taken-at, text-out-at}
+use Rattle.page.proofs.Stages.{Stage, Stage.taking-data, Stage.taking-text, session-at, data-at, closed-at, text-out-at}
 use Rattle.page.proofs.WholeCalls.{begin-call-at}
 
 module _ (key iv : List ℕ) where
@@ -31,7 +31,7 @@ module _ (key iv : List ℕ) where
   lent f g b s table eb es =
       subst (λ (h : List ℕ). Table h table) (ap (λ (u : Session). u .h) eb ∙ h-at f ∙ sym (h-at g) ∙ ap (λ (u : Session). u .h) (sym es))
 
-  -- ---- data, text
+  -- ---- data, and what an open writes
 
   module _ (d : List ℕ) where
     pub told-session : (b s : Session) → b ≡ session-at key iv (taking-data []) → s ≡ data-taken b d → s ≡ session-at key iv (taking-data d)
@@ -40,9 +40,7 @@ module _ (key iv : List ℕ) where
     pub closed-session : (s u : Session) → s ≡ session-at key iv (taking-data d) → u ≡ closed s → u ≡ session-at key iv (taking-text d [])
     closed-session s u es eu = eu ∙ ap closed es ∙ closed-at key iv (taking-data d)
 
-    module _ (s : Session) (e : s ≡ session-at key iv (taking-text d [])) (t out after : List ℕ) where
-      pub whole-session : (u : Session) → u ≡ text-taken s t → u ≡ session-at key iv (taking-text d t)
-      whole-session u eu = eu ∙ ap (λ (v : Session). text-taken v t) e ∙ text-taken-at key iv d [] t
-
-      pub whole-out : after ≡ text-out s t ++ drop (length t) out → after ≡ cipher-of key iv t ++ drop (length t) out
-      whole-out eo = eo ∙ ap (λ (v : Session). text-out v t ++ drop (length t) out) e ∙ ap (λ (l : List ℕ). l ++ drop (length t) out) (text-out-at key iv d [] t)
+    pub whole-out : (s : Session) → s ≡ session-at key iv (taking-text d []) → (t out after : List ℕ) → after ≡ text-out s t ++ drop (length t) out
+        → after ≡ cipher-of key iv t ++ drop (length t) out
+    whole-out s e t out after eo =
+        eo ∙ ap (λ (v : Session). text-out v t ++ drop (length t) out) e ∙ ap (λ (l : List ℕ). l ++ drop (length t) out) (text-out-at key iv d [] t)

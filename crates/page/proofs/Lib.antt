@@ -2,6 +2,7 @@ pub mod Phases
 pub mod Ciphertext
 pub mod Stages
 pub mod Tags
+pub mod OnePass
 pub mod WholeCalls
 pub mod AtOnce
 pub mod Holding

@@ -5,15 +5,16 @@ use mathlib.Core.List.{List, _++_}
 use Prim.Native.Nat.{ℕ, _-_, _%_}
 use lib.ListN.{length, replicate}
 use Rattle.words.specs.Bytes.{zeros}
-use Rattle.ghash.specs.Hash.{hashFrom, whole-blocks, rest}
+use Rattle.ghash.specs.Hash.{hashFrom, whole-blocks, rest, padded}
 use Rattle.ghash.proofs.Hashing.{hash-append}
+use Rattle.ghash.proofs.Padding.{padded-whole}
 use Rattle.start.specs.Start.{sealed-keystream}
 use Rattle.digest.specs.Sum.{Sum, fresh}
 use Rattle.digest.specs.Digest.{absorb}
 use Rattle.digest.proofs.Pieces.{sum}
-use Rattle.digest.proofs.Settling.{hash-front, absorb-fresh, padded-whole, settled-padded}
+use Rattle.digest.proofs.Settling.{hash-front, absorb-fresh, settled-padded}
 use Rattle.session.specs.Session.{Session}
-use Rattle.page.specs.Page.{cipher-of, padded}
+use Rattle.page.specs.Page.{cipher-of}
 use Rattle.page.specs.Reached.{sum-of, session-of}
 use Rattle.page.proofs.Stages.{Stage, Stage.taking-data, Stage.taking-text, ad-of, text-of, phase-at, sum-at, session-at}
 

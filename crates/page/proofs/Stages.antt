@@ -12,6 +12,7 @@ use lib.ListN.{length, getD, length-append}
 use Rattle.scope.specs.Refusals.{pick}
 use Rattle.words.specs.Xor.{_⊕_}
 use Rattle.words.specs.Bytes.{zeros}
+use Rattle.ghash.specs.Hash.{ceil16}
 use Rattle.cipher.specs.Run.{forward, moves}
 use Rattle.cipher.specs.State.{State, moved}
 use Rattle.cipher.proofs.Stepping.{moved-more}
@@ -19,7 +20,7 @@ use Rattle.start.specs.Start.{Mode.sealed, started, sealed-keystream}
 use Rattle.digest.specs.Sum.{Sum, fresh}
 use Rattle.digest.specs.Digest.{push, absorb, settled}
 use Rattle.digest.proofs.Pieces.{absorb-append, absorb-one}
-use Rattle.session.specs.Session.{Session, ceil16, drawn-at}
+use Rattle.session.specs.Session.{Session, drawn-at}
 use Rattle.session.specs.Calls.{begun}
 use Rattle.session.specs.Pieces.{data-taken, closed, byte-current, byte-out, byte-taken, text-taken, text-out}
 use Rattle.page.specs.Page.{encrypted, cipher-of}

@@ -9,13 +9,13 @@ use Rattle.words.specs.Sums.{_⊞_, add32}
 use Rattle.words.proofs.Rows.{zeros-block, pointwise-length, xors-length}
 use Rattle.words.proofs.Bytes.{littles-long, numbers-long}
 use Rattle.aes.specs.Round.{gathered, mixBy, round}
-use Rattle.ghash.specs.Hash.{lengths, ghash}
+use Rattle.ghash.specs.Hash.{lengths, padded, ghash}
 use Rattle.ghash.proofs.Hashing.{hashFrom-block}
 use Rattle.cipher.specs.Registers.{Registers}
 use Rattle.cipher.specs.Step.{T1, z, step}
 use Rattle.cipher.specs.Run.{move, moves}
 use Rattle.start.specs.Start.{Mode.sealed, start, sealed-keystream}
-use Rattle.page.specs.Page.{padded, tag-for}
+use Rattle.page.specs.Page.{tag-for}
 
 sum-long : (x y : List ℕ) → length (x ⊞ y) ≡ 16
 unfolding _⊞_

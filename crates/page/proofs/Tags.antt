@@ -1,4 +1,4 @@
--- The tag that a session's finish gives is the page's: the hash that the session holds, settled, is GHASH of data and ciphertext, each padded,
+-- The tag of data and a ciphertext is one block more, of both lengths, on GHASH of both, each padded. The tag that a session's finish gives is the page's: the hash that the session holds, settled, is GHASH of data and ciphertext, each padded,
 -- and one block more, of both lengths, ends it.
 use mathlib.Core.Path.{_≡_, sym, ap, ap₂, _∙_}
 use mathlib.Core.List.{List, _++_}
@@ -7,15 +7,15 @@ use lib.ListN.{length, length-append}
 use Rattle.words.specs.Xor.{xors}
 use Rattle.words.specs.Bytes.{Row, IsBlock, zeros}
 use Rattle.words.proofs.Rows.{zeros-block, xors-row}
-use Rattle.ghash.specs.Hash.{lengths, eat}
+use Rattle.ghash.specs.Hash.{lengths, eat, padded, ghash}
 use Rattle.ghash.proofs.BigEndian.{bigs-long}
 use Rattle.ghash.proofs.Hashing.{hashFrom-block}
 use Rattle.digest.specs.Digest.{settled}
 use Rattle.session.specs.Session.{Session}
 use Rattle.session.specs.Pieces.{closed, tag-of}
 use Rattle.start.specs.Start.{sealed-keystream}
-use Rattle.page.specs.Page.{cipher-of, padded, tag-for, page-tag}
-use Rattle.page.proofs.Phases.{text-sum, phases}
+use Rattle.page.specs.Page.{cipher-of, tag-for, page-tag}
+use Rattle.page.proofs.Phases.{text-sum, ended, phases}
 use Rattle.page.proofs.Ciphertext.{cipher-length, stream-block}
 use Rattle.page.proofs.Stages.{Stage, ad-of, text-of, sum-at, session-at, closed-at}
 
@@ -23,7 +23,15 @@ lengths-block : (d t : ℕ) → length (lengths d t) ≡ 16
 lengths-block d t = simp (length-append, bigs-long)
 
 module _ (key iv : List ℕ) where
-  -- the tag of data and any ciphertext, by the hash of bytes one by one
+  -- the tag of data and any ciphertext, by the hash of both
+  pub tag-by-hash : (d c y : List ℕ) → y ≡ ghash (sealed-keystream key iv 0) (padded d ++ padded c)
+      → tag-for key iv d c ≡ xors (eat (sealed-keystream key iv 0) y (lengths (length d) (length c))) (sealed-keystream key iv 1)
+  unfolding tag-for
+  tag-by-hash d c y e =
+      ap (λ (x : List ℕ). xors x (sealed-keystream key iv 1))
+      (ended (sealed-keystream key iv 0) d c (lengths (length d) (length c)) y (lengths-block (length d) (length c)) e)
+
+  -- and by that of their bytes one by one
   pub tag-for-is : (d c : List ℕ)
       → tag-for key iv d c
       ≡ xors

@@ -1,4 +1,5 @@
 pub mod Page
+pub mod OnePass
 pub mod Calls
 pub mod Reached
 pub mod Inner

@@ -5,13 +5,13 @@ use Prim.Native.Nat.{ℕ, _+_, _-_, _%_}
 use mathlib.Core.Bool.{Bool, true, false}
 use mathlib.Core.List.{List, [], _++_}
 use lib.ListN.{length, replicate}
-use Rattle.ghash.specs.Hash.{ghash, whole-blocks, rest}
+use Rattle.ghash.specs.Hash.{ghash, whole-blocks, rest, ceil16, padded}
 use Rattle.cipher.specs.Run.{forward}
 use Rattle.cipher.specs.State.{moved}
 use Rattle.start.specs.Start.{Mode.sealed, started, sealed-keystream}
 use Rattle.digest.specs.Sum.{Sum}
-use Rattle.session.specs.Session.{Session, ceil16, drawn-at}
-use Rattle.page.specs.Page.{cipher-of, padded}
+use Rattle.session.specs.Session.{Session, drawn-at}
+use Rattle.page.specs.Page.{cipher-of}
 
 -- s arriving behind what is hashed already: its whole blocks are hashed, the rest is held from the left in a block, with zeros behind
 abbrev pub arrived : (h hashed s : List ℕ) → Sum

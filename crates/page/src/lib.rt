@@ -1,10 +1,18 @@
 // Whole pages: seal and open.
 ghost use mathlib.Core.Path.{_≡_};
+ghost use mathlib.Core.Bool.{true};
+ghost use mathlib.Core.List.{[]};
+ghost use Prim.Native.Nat.{_≤_};
+ghost use lib.ListN.{length};
+ghost use Rattle.scope.specs.Limits.{most-data};
 ghost use Rattle.words.specs.Bytes.{zeros};
 ghost use Rattle.words.specs.Machine.{bytesOf};
+ghost use Rattle.aes.specs.Tables.{Holds};
+ghost use Rattle.wide_round.specs.Wide.{wide};
 ghost use Rattle.ghash.specs.Machine.{bytesOfElement, Table};
 ghost use Rattle.session.specs.Machine.{sessionOf};
 ghost use Rattle.page.specs.Calls.{over-limit, seal-number, seal-out, seal-tag, open-number, open-out};
+ghost use Rattle.page.specs.Reached.{session-of};
 ghost use Rattle.page.specs.Inner.{before-tag, tag-over};
 use session::Session;
 use words::Block;
@@ -34,6 +42,25 @@ fn refused(answer: u64) -> Tagged
     }
 }
 
+// The session of a page with its data closed and no text yet, and the table of its H, which serves all of the page.
+fn session_of(
+    key: &[u8],
+    iv: &[u8],
+    ad: &[u8],
+    rounds: &[u32; 256],
+    table: &mut [u64; 1024],
+) -> Session
+    requires { ⌜ (length (now key) ≡ 32) × (length (now iv) ≡ 16) × (length (now ad) ≤ most-data) × Holds wide (now rounds) × (length (now table) ≡ 1024) ⌝ }
+    ensures session { λ r. ⌜ sessionOf r ≡ session-of (now (key .entry)) (now (iv .entry)) (now (ad .entry)) [] true ⌝ }
+    ensures table { λ r. ⌜ Table (bytesOfElement (r .h)) (now (table .exit)) ⌝ }
+{
+    let b = session::lent::begin_with(key, iv, rounds);
+    let begun = b.session;
+    let h = begun.h;
+    ghash::fill(table, h);
+    session::lent::close_with(session::lent::data_with(begun, ad, table), table)
+}
+
 // Seals a page: the ciphertext goes to the front of the output, as many bytes as the text has, and the tag comes back. Refused: 1 for the key's
 // length, 2 for the IV's, 3 for data over 65,535 bytes or text over 1,048,576, 4 for an output shorter than the text.
 pub fn seal(key: &[u8], iv: &[u8], ad: &[u8], text: &[u8], out: &mut [u8]) -> Tagged
@@ -52,16 +79,16 @@ pub fn seal(key: &[u8], iv: &[u8], ad: &[u8], text: &[u8], out: &mut [u8]) -> Ta
         return refused(scope::SHORT_OUTPUT);
     }
     let rounds = wide_round::table();
-    let b = session::lent::begin_with(key, iv, &rounds);
-    let begun = b.session;
-    let h = begun.h;
     let mut table = [0u64; 1024];
-    ghash::fill(&mut table, h);
-    let told = session::lent::data_with(begun, ad, &table);
-    let whole = session::lent::text_with(told, text, out, &rounds, &table);
+    let s = session_of(key, iv, ad, &rounds, &mut table);
+    let state = s.state;
+    let registers = state.registers;
+    let d = s.held;
+    let y = session::pass::sealed_text(registers, d.acc, s.h, text, out, &rounds, &table);
+    let t = session::lent::tag_from(s, text.len() as u64, y, &table);
     Tagged {
         answer: scope::ACCEPTED,
-        tag: words::to_bytes(session::lent::tag_with(whole, &table)),
+        tag: words::to_bytes(t),
     }
 }
 
@@ -75,9 +102,7 @@ fn tag_over(s: Session, cipher: &[u8], table: &[u64; 1024]) -> Block
     let n = cipher.len() as u64;
     let e = digest::absorb_with(h, d, 0, cipher, table);
     let y = digest::settle_with(h, e, n, table);
-    let mut u = s;
-    u.text = n;
-    session::lent::tag_from(u, y, table)
+    session::lent::tag_from(s, n, y, table)
 }
 
 // The number of an open before its tag is compared: 1 for the key's length, 2 for the IV's, 10 for the tag's, 3 and 4.
@@ -112,16 +137,12 @@ pub fn open(key: &[u8], iv: &[u8], ad: &[u8], cipher: &[u8], tag: &[u8], out: &m
         return n;
     }
     let rounds = wide_round::table();
-    let b = session::lent::begin_with(key, iv, &rounds);
-    let begun = b.session;
-    let h = begun.h;
     let mut table = [0u64; 1024];
-    ghash::fill(&mut table, h);
-    let ready = session::lent::close_with(session::lent::data_with(begun, ad, &table), &table);
+    let s = session_of(key, iv, ad, &rounds, &mut table);
     let given = words::load(tag, 0);
-    let expected = tag_over(ready, cipher, &table);
+    let expected = tag_over(s, cipher, &table);
     if words::same(given, expected) {
-        session::lent::apply_keystream(ready, cipher, out, &rounds);
+        session::lent::apply_keystream(s, cipher, out, &rounds);
         return scope::ACCEPTED;
     }
     scope::BAD_TAG

@@ -1,3 +1,4 @@
+pub mod Sealing
 pub mod Pieces
 pub mod Within
 pub mod Going

@@ -8,19 +8,14 @@ use lib.ListN.{length, drop}
 use lib.Seq.{sets}
 use Rattle.scope.specs.Refusals.{pick}
 use Rattle.words.specs.Xor.{xors}
-use Rattle.words.specs.Machine.{bytesOf}
 use Rattle.aes.specs.Tables.{Holds}
 use Rattle.wide_round.specs.Wide.{wide}
-use Rattle.ghash.specs.Hash.{eat, hashFrom}
+use Rattle.ghash.specs.Hash.{eat}
 use Rattle.ghash.specs.Machine.{Table}
 use Rattle.cipher.specs.Registers.{Registers}
-use Rattle.cipher.specs.Step.{z}
-use Rattle.cipher.specs.Run.{forward, moves, blocks}
+use Rattle.cipher.specs.Run.{forward, blocks}
 use Rattle.cipher.specs.State.{moved}
-use Rattle.cipher.specs.Machine.{registersOf}
 use Rattle.digest.specs.Sum.{Sum, fresh}
-use Rattle.digest.specs.Machine.{sumOf}
-use Rattle.session.specs.declared.blocks.Track as machine
 use Rattle.session.specs.Session.{Session}
 use Rattle.session.specs.Pieces.{byte-current}
 
@@ -73,27 +68,9 @@ held s p = holding s (sets (s .sum .pending) (s .text % 16) (masked s p)) (lengt
 
 -- ---- whole blocks
 
--- what they move on
-pub record Track : Type 0 where
-  pub registers : Registers
-  pub current : List ℕ
-  pub sum : Sum
-
-abbrev pub trackOf : machine.Track → Track
-trackOf t = record { registers = registersOf (t .registers); current = bytesOf (t .z); sum = sumOf (t .held) }
-
 -- n blocks of text under as many of keystream
 abbrev pub under-blocks : Registers → (n : ℕ) → (p : List ℕ) → List ℕ
 under-blocks s n p = xors p (blocks forward n s)
-
--- n whole blocks of text, at least one
-abbrev pub blocks-taken : (h : List ℕ) → Track → (n : ℕ) → (p : List ℕ) → Track
-blocks-taken h t n p =
-    record {
-      registers = moves forward n (t .registers);
-      current = z (moves forward (n - 1) (t .registers));
-      sum = fresh (hashFrom h (t .sum .hash) (under-blocks (t .registers) n p));
-    }
 
 -- ---- what is asked
 

@@ -1,4 +1,5 @@
 pub mod Session
+pub mod Pass
 pub mod Pieces
 pub mod Calls
 pub mod Machine

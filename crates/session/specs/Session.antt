@@ -1,6 +1,7 @@
 -- A session (document 01, "Tag arithmetic" and "Sessions and parking"): what is kept between its calls.
-use Prim.Native.Nat.{ℕ, _+_, _-_, _/_}
+use Prim.Native.Nat.{ℕ, _+_, _-_}
 use mathlib.Core.List.{List}
+use Rattle.ghash.specs.Hash.{ceil16}
 use Rattle.cipher.specs.State.{State}
 use Rattle.digest.specs.Sum.{Sum}
 
@@ -18,10 +19,6 @@ pub record Session : Type 0 where
   pub current : List ℕ
   -- the hash so far, and the bytes not yet hashed
   pub sum : Sum
-
--- blocks that hold n bytes
-abbrev pub ceil16 : ℕ → ℕ
-ceil16 n = (n + 15) / 16
 
 -- blocks drawn at a text length
 abbrev pub drawn-at : ℕ → ℕ

@@ -1,25 +1,23 @@
 // A piece of text by blocks: up to the end of the block in use, whole blocks, and the rest.
 ghost use mathlib.Core.Path.{_≡_};
 ghost use mathlib.Core.List.{_++_};
-ghost use Prim.Native.Nat.{_+_, _-_, _*_, _%_, _^_, _<_, _≤_};
+ghost use Prim.Native.Nat.{_+_, _-_, _%_, _^_, _<_, _≤_};
 ghost use lib.ListN.{length, drop};
 ghost use lib.Seq.{sets, slice};
 ghost use Rattle.words.specs.Xor.{xors};
 ghost use Rattle.aes.specs.Tables.{Holds};
 ghost use Rattle.wide_round.specs.Wide.{wide};
 ghost use Rattle.ghash.specs.Machine.{bytesOfElement};
-ghost use Rattle.cipher.specs.Machine.{registersOf};
 ghost use Rattle.session.specs.Pieces.{text-taken, text-out};
 ghost use Rattle.session.specs.Machine.{sessionOf};
 ghost use Rattle.session.specs.Inner as Inner;
-ghost use Rattle.session.specs.Inner.{ready, masked, trackOf, under-blocks, blocks-taken, Part, Blocks, Lent};
+ghost use Rattle.session.specs.Inner.{ready, masked, Part, Blocks, Lent};
 use crate::Session;
-use cipher::Registers;
+use crate::pass;
+use crate::pass::Track;
 use cipher::State;
 use cipher::lanes;
 use digest::Held;
-use ghash::Element;
-use words::Block;
 
 // A block is drawn where the next byte is the first of one, and not before.
 fn drawn(s: Session, rounds: &[u32; 256]) -> Session
@@ -148,69 +146,7 @@ fn full(
     r
 }
 
-// What whole blocks move on.
-pub struct Track {
-    pub registers: Registers,
-    pub z: Block,
-    pub held: Held,
-}
-
-// A batch of at most 16 whole blocks: a step as in `lanes::batch`, its z on the text, and the ciphertext hashed, block by block. All in one loop: a product waits for
-// the one before it, and the processor makes the step meanwhile.
-fn sealed_batch(
-    t: Track,
-    h: Element,
-    piece: &[u8],
-    out: &mut [u8],
-    from: usize,
-    n: usize,
-    rounds: &[u32; 256],
-    table: &[u64; 1024],
-) -> Track
-    requires { ⌜ (0 < n) × (n ≤ 16) × (from + 16 * n ≤ length (now piece)) × (from + 16 * n ≤ length (now out)) × Lent (bytesOfElement h) (now rounds) (now table) ⌝ }
-    ensures track { λ r. ⌜ trackOf r ≡ blocks-taken (bytesOfElement h) (trackOf t) n (slice from (from + 16 * n) (now (piece .entry))) ⌝ }
-    ensures out { λ _. ⌜ now (out .exit) ≡ sets (now (out .entry)) from (under-blocks (registersOf (t .registers)) n (slice from (from + 16 * n) (now (piece .entry)))) ⌝ }
-{
-    let s = t.registers;
-    let d = t.held;
-    let mut y = d.acc;
-    let mut z = t.z;
-    let old = s.lfsr;
-    let r1 = s.r1;
-    let r2 = s.r2;
-    let mut r3 = s.r3;
-    let mut t1 = [0u16; 128];
-    let mut t2 = [0u16; 128];
-    let mut l1 = [0u8; 272];
-    let mut l2 = [0u8; 272];
-    let mut m = [0u8; 512];
-    let l = lanes::taps(old, &mut t1, &mut t2, n);
-    words::store(&mut l1, 0, r1);
-    words::store(&mut l2, 0, r2);
-    let mut i: usize = 0;
-    while i < n {
-        let at = 16 * i;
-        let next = at + 16;
-        let n1 = lanes::next_r1(&l2, at, r3, lanes::tap(&t2, i));
-        words::store(&mut l1, next, n1);
-        let n2 = wide_round::round_at(&l1, at, rounds);
-        let n3 = wide_round::round_at(&l2, at, rounds);
-        words::store(&mut l2, next, n2);
-        r3 = n3;
-        z = lanes::output(&l1, &l2, at, lanes::tap(&t1, i));
-        let c = words::xor(words::load(piece, from + at), z);
-        words::store(out, from + at, c);
-        y = ghash::absorb_at(y, ghash::from_block(c), h, table, &mut m, 32 * i);
-        i += 1;
-    }
-    Track {
-        registers: lanes::moved_to(s, l, &l1, &l2, 16 * n, r3),
-        z: z,
-        held: digest::fresh(y),
-    }
-}
-
-// Whole blocks. The loop keeps no more of the session than they move on.
+// Whole blocks. Sealing them keeps no more of the session than they move on; the block of keystream drawn last is what the last of them shows.
 fn blocks(
     s: Session,
     piece: &[u8],
@@ -224,30 +160,29 @@ fn blocks(
     ensures session { λ r. ⌜ sessionOf r ≡ text-taken (sessionOf s) (slice from to (now (piece .entry))) ⌝ }
     ensures out { λ _. ⌜ now (out .exit) ≡ sets (now (out .entry)) from (text-out (sessionOf s) (slice from to (now (piece .entry)))) ⌝ }
 {
-    let h = s.h;
-    let began = s.state;
-    let first = began.registers;
-    let drawn = s.current;
-    let d = s.held;
-    let mut t = Track {
-        registers: first,
-        z: drawn,
-        held: d,
-    };
-    let mut i = from;
-    while i < to {
-        let k = lanes::at_most((to - i) / 16);
-        let u = sealed_batch(t, h, piece, out, i, k, rounds, table);
-        t = u;
-        i += 16 * k;
+    if from == to {
+        return s;
     }
-    let registers = t.registers;
-    let z = t.z;
-    let e = t.held;
+    let h = s.h;
     let old = s.state;
+    let first = old.registers;
+    let d = s.held;
+    let before = d.acc;
+    let t = Track {
+        registers: first,
+        hash: before,
+    };
+    let n = (to - from) / 16;
+    let u = pass::sealed_blocks(t, h, piece, out, rounds, table, from, n);
+    let registers = u.registers;
+    let y = u.hash;
+    let x = words::load(piece, to - 16);
+    let c = words::load(out, to - 16);
+    let z = words::xor(x, c);
+    let e = digest::fresh(y);
     let state = State {
         registers: registers,
-        count: old.count + ((to - from) / 16) as u64,
+        count: old.count + n as u64,
     };
     let mut r = s;
     r.text = s.text + ((to - from) as u64);

@@ -1,4 +1,4 @@
-// What a whole page is made of: the calls with their tables lent, that of the rounds and that of H, so that one of each serves a page; and the keystream
+// What a whole page is made of but for the pass over its text (pass.rt): the calls with their tables lent, that of the rounds and that of H, so that one of each serves a page; and the keystream
 // alone, for a page that is opened.
 ghost use mathlib.Core.Path.{_≡_};
 ghost use mathlib.Core.List.{_++_};
@@ -12,10 +12,9 @@ ghost use Rattle.words.specs.Xor.{xors};
 ghost use Rattle.words.specs.Machine.{bytesOf};
 ghost use Rattle.ghash.specs.Hash.{lengths, eat};
 ghost use Rattle.ghash.specs.Machine.{bytesOfElement, Table};
-ghost use Rattle.session.specs.Pieces.{data-taken, closed, tag-of, text-taken, text-out};
+ghost use Rattle.session.specs.Pieces.{data-taken, closed, text-out};
 ghost use Rattle.session.specs.Calls.{begin-call};
 ghost use Rattle.session.specs.Machine.{sessionOf, Says};
-ghost use Rattle.session.specs.Inner.{Part, Lent};
 use crate::Said;
 use crate::Session;
 use crate::blocks;
@@ -72,47 +71,15 @@ pub fn close_with(s: Session, table: &[u64; 1024]) -> Session
     crate::into_text(s, digest::settle_with(h, d, s.ad, table))
 }
 
-// An accepted piece of text. Any, even an empty one, closes the data.
-pub fn text_with(
-    s: Session,
-    piece: &[u8],
-    out: &mut [u8],
-    rounds: &[u32; 256],
-    table: &[u64; 1024],
-) -> Session
-    requires { ⌜ Part (s .text) (length (now piece)) (length (now out)) 0 (length (now piece)) × Lent (bytesOfElement (s .h)) (now rounds) (now table) × (s .state .count + length (now piece) < 2 ^ 64) ⌝ }
-    ensures session { λ r. ⌜ sessionOf r ≡ text-taken (closed (sessionOf s)) (now (piece .entry)) ⌝ }
-    ensures out { λ _. ⌜ now (out .exit) ≡ text-out (closed (sessionOf s)) (now (piece .entry)) ++ drop (length (now (piece .entry))) (now (out .entry)) ⌝ }
-{
-    let u = close_with(s, table);
-    let at = (s.text % 16) as usize;
-    if piece.len() < 16 - at {
-        return blocks::short_text(u, piece, out, rounds);
-    }
-    blocks::long_text(u, piece, out, rounds, table)
-}
-
-// The tag of a session whose data and ciphertext, each padded, have the hash y: both lengths last, xor the end pad.
-pub fn tag_from(s: Session, y: Element, table: &[u64; 1024]) -> Block
+// The tag of a session's data and n bytes of ciphertext, which have, each padded, the hash y: both lengths last, xor the end pad.
+pub fn tag_from(s: Session, n: u64, y: Element, table: &[u64; 1024]) -> Block
     requires { ⌜ Table (bytesOfElement (s .h)) (now table) ⌝ }
-    ensures { λ r. ⌜ bytesOf r ≡ xors (eat (bytesOfElement (s .h)) (bytesOfElement y) (lengths (s .ad) (s .text))) (bytesOf (s .pad)) ⌝ }
+    ensures { λ r. ⌜ bytesOf r ≡ xors (eat (bytesOfElement (s .h)) (bytesOfElement y) (lengths (s .ad) n)) (bytesOf (s .pad)) ⌝ }
 {
     let h = s.h;
     let pad = s.pad;
-    let v = ghash::absorb_element(y, ghash::lengths(s.ad, s.text), h, table);
+    let v = ghash::absorb_element(y, ghash::lengths(s.ad, n), h, table);
     words::xor(ghash::to_block(v), pad)
-}
-
-// The tag of a session: what is held is padded and hashed.
-pub fn tag_with(s: Session, table: &[u64; 1024]) -> Block
-    requires { ⌜ Table (bytesOfElement (s .h)) (now table) ⌝ }
-    ensures { λ r. ⌜ bytesOf r ≡ tag-of (sessionOf s) ⌝ }
-{
-    let h = s.h;
-    let u = close_with(s, table);
-    let d = u.held;
-    let y = digest::settle_with(h, d, s.text, table);
-    tag_from(s, y, table)
 }
 
 // n blocks of the input, from a place on, under as many of keystream: written from there on.

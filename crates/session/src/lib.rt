@@ -1,5 +1,5 @@
 // A sealing session: begin, then data pieces, then text pieces, then finish. The session goes in by value and comes back. A piece of text goes by
-// blocks in blocks.rt; lent.rt has the calls for whoever makes the tables once for several.
+// blocks in blocks.rt; pass.rt has the loops that seal, of a piece's whole blocks and of a whole page; lent.rt has the calls for whoever makes the tables once for several.
 ghost use mathlib.Core.Path.{_≡_};
 ghost use mathlib.Core.List.{_++_};
 ghost use Prim.Native.Nat.{_+_, _^_, _<_, _≤_};
@@ -7,10 +7,10 @@ ghost use lib.ListN.{length, drop};
 ghost use Rattle.scope.specs.Limits.{most-text};
 ghost use Rattle.aes.specs.Tables.{Holds};
 ghost use Rattle.wide_round.specs.Wide.{wide};
+ghost use Rattle.ghash.specs.Hash as Hash;
 ghost use Rattle.ghash.specs.Machine.{bytesOfElement};
 ghost use Rattle.cipher.specs.Machine.{registersOf};
 ghost use Rattle.digest.specs.Machine.{sumOf};
-ghost use Rattle.session.specs.Session as definition;
 ghost use Rattle.session.specs.Calls as Calls;
 ghost use Rattle.session.specs.Calls.{begun-from, begin-call, data-call, text-call, finish-call};
 ghost use Rattle.session.specs.Pieces.{closed, tag-of, text-taken, text-out};
@@ -20,6 +20,7 @@ ghost use Rattle.session.specs.Inner.{Part};
 
 mod blocks;
 pub mod lent;
+pub mod pass;
 
 use cipher::Registers;
 use cipher::State;
@@ -186,13 +187,13 @@ fn take_text(s: Session, piece: &[u8], out: &mut [u8]) -> Session
     let h = s.h;
     let mut table = [0u64; 1024];
     ghash::fill(&mut table, h);
-    lent::text_with(s, piece, out, &rounds, &table)
+    blocks::long_text(lent::close_with(s, &table), piece, out, &rounds, &table)
 }
 
 // Blocks that hold n bytes.
 pub fn ceil16(n: u64) -> u64
     requires { ⌜ n ≤ most-text ⌝ }
-    ensures { λ r. ⌜ r ≡ definition.ceil16 n ⌝ }
+    ensures { λ r. ⌜ r ≡ Hash.ceil16 n ⌝ }
 {
     (n + 15) / 16
 }
@@ -243,13 +244,17 @@ pub fn text(s: Session, piece: &[u8], out: &mut [u8]) -> Said
     }
 }
 
+// The tag of a session: what is held is padded and hashed, then both lengths.
 fn tag(s: Session) -> [u8; 16]
     ensures { λ r. ⌜ r ≡ tag-of (sessionOf s) ⌝ }
 {
     let h = s.h;
     let mut table = [0u64; 1024];
     ghash::fill(&mut table, h);
-    words::to_bytes(lent::tag_with(s, &table))
+    let u = lent::close_with(s, &table);
+    let d = u.held;
+    let y = digest::settle_with(h, d, s.text, &table);
+    words::to_bytes(lent::tag_from(s, s.text, y, &table))
 }
 
 // Gives the tag and ends the session: every call after it gives 7. Refused: 7.

@@ -19,7 +19,8 @@ use Rattle.start.specs.Leads.{LeadsTo, Traced, Traced.origin, Traced.refused, T
 use Rattle.start.specs.Trace.{trace}
 use Rattle.start.proofs.Undo.{start-good}
 use Rattle.start.proofs.Tracing.{traces}
-use Rattle.session.specs.Session.{ceil16, drawn-at}
+use Rattle.ghash.specs.Hash.{ceil16}
+use Rattle.session.specs.Session.{drawn-at}
 use Rattle.layout.specs.Block.{read}
 use Rattle.layout.specs.Rules.{well-laid}
 use Rattle.layout.proofs.Obeying.{laid-text}

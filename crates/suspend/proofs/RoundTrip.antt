@@ -17,7 +17,8 @@ use Rattle.start.specs.Start.{Mode.sealed, start, started}
 use Rattle.start.specs.Leads.{Traced.origin}
 use Rattle.start.specs.Trace.{trace}
 use Rattle.start.proofs.Tracing.{traces}
-use Rattle.session.specs.Session.{Session, ceil16, drawn-at}
+use Rattle.ghash.specs.Hash.{ceil16}
+use Rattle.session.specs.Session.{Session, drawn-at}
 use Rattle.layout.specs.Block.{registers-at, block-of}
 use Rattle.layout.specs.Laws.{Fine}
 use Rattle.layout.proofs.Written.{block-row, block-laid, registers-block, read-block}

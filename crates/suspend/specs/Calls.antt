@@ -12,7 +12,8 @@ use Rattle.words.specs.Bytes.{zeros}
 use Rattle.cipher.specs.State.{State}
 use Rattle.start.specs.Start.{Mode.sealed, sealed-keystream}
 use Rattle.start.specs.Leads.{LeadsToState}
-use Rattle.session.specs.Session.{Session, ceil16, drawn-at}
+use Rattle.ghash.specs.Hash.{ceil16}
+use Rattle.session.specs.Session.{Session, drawn-at}
 use Rattle.session.specs.Calls.{Given, no-session}
 use Rattle.layout.specs.Block.{Suspended, block-of, read}
 use Rattle.layout.specs.Rules.{well-laid}

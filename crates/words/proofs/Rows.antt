@@ -9,7 +9,7 @@ use lib.Dec.{ltb, lit<}
 use lib.ListN.{length, getD, set, take, drop, replicate, length-append, length-take, length-drop, length-set, length-replicate}
 use lib.Seq.{getD-drop, drop-cons, sets}
 use Rattle.words.specs.Xor.{_⊕_, pointwise, xors}
-use Rattle.words.specs.Bytes.{Row, IsBlock, zeros}
+use Rattle.words.specs.Bytes.{part, Row, IsBlock, zeros}
 use Rattle.words.proofs.XorLaws.{⊕-lt, ⊕-twice, ⊕-comm, ⊕-zero-r}
 use Rattle.words.proofs.Tests.{and-left, and-right}
 
@@ -69,10 +69,14 @@ zeros-block = zeros-row 16 256 (lit< tt)
 -- ---- element by element
 
 module _ (f : ℕ → ℕ → ℕ) where
+  -- as long as the first, where the second is as long or longer
+  pub pointwise-within : (s t : List ℕ) → length s ≤ length t → length (pointwise f s t) ≡ length s
+  pointwise-within [] t h = refl
+  pointwise-within (a ∷ s) [] h = absurd (omega arith)
+  pointwise-within (a ∷ s) (b ∷ t) h = ap suc (pointwise-within s t (omega arith))
+
   pub pointwise-length : (s t : List ℕ) → length s ≡ length t → length (pointwise f s t) ≡ length s
-  pointwise-length [] t e = refl
-  pointwise-length (a ∷ s) [] e = absurd (omega arith)
-  pointwise-length (a ∷ s) (b ∷ t) e = ap suc (pointwise-length s t (omega arith))
+  pointwise-length s t e = pointwise-within s t (omega arith)
 
   pointwise-below : (m : ℕ) → ((x y : ℕ) → x < m → y < m → f x y < m) → (s t : List ℕ) → Below m s → Below m t → Below m (pointwise f s t)
   pointwise-below m h [] t p q i = p i
@@ -90,11 +94,27 @@ module _ (f : ℕ → ℕ → ℕ) where
   pointwise-comm h (a ∷ s) [] = refl
   pointwise-comm h (a ∷ s) (b ∷ t) = ap₂ (λ (x : ℕ) (l : List ℕ). x ∷ l) (h a b) (pointwise-comm h s t)
 
+  pointwise-nil : (s : List ℕ) → pointwise f s [] ≡ []
+  pointwise-nil [] = refl
+  pointwise-nil (a ∷ s) = refl
+
   pointwise-append : (s t u v : List ℕ) → length s ≡ length t → pointwise f (s ++ u) (t ++ v) ≡ pointwise f s t ++ pointwise f u v
   pointwise-append [] [] u v e = refl
   pointwise-append [] (b ∷ t) u v e = absurd (omega arith)
   pointwise-append (a ∷ s) [] u v e = absurd (omega arith)
   pointwise-append (a ∷ s) (b ∷ t) u v e = ap (λ (l : List ℕ). f a b ∷ l) (pointwise-append s t u v (omega arith))
+
+  pointwise-take : (n : ℕ) (s t : List ℕ) → take n (pointwise f s t) ≡ pointwise f (take n s) (take n t)
+  pointwise-take zero s t = refl
+  pointwise-take (suc n) [] t = refl
+  pointwise-take (suc n) (a ∷ s) [] = refl
+  pointwise-take (suc n) (a ∷ s) (b ∷ t) = ap (λ (l : List ℕ). f a b ∷ l) (pointwise-take n s t)
+
+  pointwise-drop : (n : ℕ) (s t : List ℕ) → drop n (pointwise f s t) ≡ pointwise f (drop n s) (drop n t)
+  pointwise-drop zero s t = refl
+  pointwise-drop (suc n) [] t = refl
+  pointwise-drop (suc n) (a ∷ s) [] = sym (pointwise-nil (drop n s))
+  pointwise-drop (suc n) (a ∷ s) (b ∷ t) = pointwise-drop n s t
 
 -- g undoes f where it does so at each place
 pub pointwise-undone : (f g : ℕ → ℕ → ℕ) (s t : List ℕ) → length s ≡ length t
@@ -109,6 +129,10 @@ pointwise-undone f g (a ∷ s) (b ∷ t) e h =
 pub xors-length : (s t : List ℕ) → length s ≡ length t → length (xors s t) ≡ length s
 unfolding xors
 xors-length = pointwise-length _⊕_
+
+pub xors-within : (s t : List ℕ) → length s ≤ length t → length (xors s t) ≡ length s
+unfolding xors
+xors-within = pointwise-within _⊕_
 
 pub xors-row : (k n : ℕ) {s t : List ℕ} → Row n (2 ^ k) s → Row n (2 ^ k) t → Row n (2 ^ k) (xors s t)
 unfolding xors
@@ -126,6 +150,10 @@ xors-comm = pointwise-comm _⊕_ ⊕-comm
 pub xors-append : (s t u v : List ℕ) → length s ≡ length t → xors (s ++ u) (t ++ v) ≡ xors s t ++ xors u v
 unfolding xors
 xors-append = pointwise-append _⊕_
+
+pub xors-part : (at k : ℕ) (s t : List ℕ) → part at k (xors s t) ≡ xors (part at k s) (part at k t)
+unfolding xors
+xors-part at k s t = ap (take k) (pointwise-drop _⊕_ at s t) ∙ pointwise-take _⊕_ k (drop at s) (drop at t)
 
 pub xors-zeros : (n : ℕ) (s : List ℕ) → length s ≡ n → xors s (replicate n 0) ≡ s
 unfolding xors

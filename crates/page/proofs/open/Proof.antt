@@ -12,10 +12,11 @@ use Rattle.session.specs.Session.{Session}
 use Rattle.session.specs.Machine.{sessionOf}
 use Rattle.page.specs.Page.{tag-for}
 use Rattle.page.specs.Inner.{tag-over}
-use Rattle.page.proofs.Stages.{Stage.taking-data, Stage.taking-text, phase-at, session-at}
-use Rattle.page.proofs.AtOnce.{begun-session, lent, told-session, closed-session, whole-out}
+use Rattle.page.proofs.Stages.{Stage.taking-text, session-at}
+use Rattle.page.proofs.AtOnce.{whole-out}
 use Rattle.page.proofs.Answers.{open-accepted, open-writes}
 use Rattle.page.proofs.Checking.{tag-over-at, front-16}
+use Rattle.page.proofs.Reached.{session-is}
 use Rattle.page.proofs.Refusing.{InOrder, within, in-order, open-before, open-broken}
 use borrow.Author.Needs.{needs}
 use Rattle.page.proofs.open.Statement.{statement}
@@ -34,50 +35,23 @@ returns c =
     let a = c .before .before .before .before .before .before .before .before .before .args in
     open-before (now (a .key)) (now (a .iv)) (now (a .ad)) (now (a .cipher)) (now (a .tag)) (now (a .out)) (c .before .before-tag .ensures) (c .if1 .taken)
 
--- ---- the session at each stage
+-- ---- the session
 
-begun : (c : tie.After-begin-with) → let a = c .before .before .before .before .before .before .before .before .before .before .before .before .args in sessionOf (c .begin-with .result .session) ≡ session-at (now (a .key)) (now (a .iv)) (taking-data [])
-begun c = let o = c .before .before .before in begun-session (now (o .before .before .before .before .before .before .before .before .before .args .key)) (now (o .before .before .before .before .before .before .before .before .before .args .iv)) _ (ordered o .key-long) (ordered o .iv-long) (c .begin-with .ensures .session)
+session-of-requires : tie.Need-session-of-requires
+session-of-requires c κs =
+    let o = c .before .before .before in
+    (ordered o .key-long, ordered o .iv-long, limits o .0, c .before .before .table .ensures, refl)
 
-told : (c : tie.After-data-with) → let a = c .before .before .before .before .before .before .before .before .before .before .before .before .before .before .before .before .before .before .args in sessionOf (c .data-with .result) ≡ session-at (now (a .key)) (now (a .iv)) (taking-data (now (a .ad)))
-told c = let a = c .before .before .before .before .before .before .before .before .before .before .before .before .before .before .before .before .before .before .args in told-session (now (a .key)) (now (a .iv)) (now (a .ad)) _ _ (begun (c .before .before .before .before .before .before)) (c .data-with .ensures)
-
-ready : (c : tie.After-close-with) → let a = c .before .before .before .before .before .before .before .before .before .before .before .before .before .before .before .before .before .before .before .before .args in sessionOf (c .close-with .result) ≡ session-at (now (a .key)) (now (a .iv)) (taking-text (now (a .ad)) [])
-ready c = let a = c .before .before .before .before .before .before .before .before .before .before .before .before .before .before .before .before .before .before .before .before .args in closed-session (now (a .key)) (now (a .iv)) (now (a .ad)) _ _ (told (c .before .before)) (c .close-with .ensures)
-
--- one table serves them
-data-with-requires : tie.Need-data-with-requires
-unfolding session-at phase-at
-data-with-requires c κs =
-    let b = c .before .before .before .before .before in
-    let e = begun b in
-    let n : b .begin-with .result .session .ad ≡ 0 = ap (λ (s : Session). s .ad) e in (
-      ap (λ (s : Session). s .phase) e,
-      omega (arith, limits (b .before .before .before) .0),
-      c .before .fill .ensures,
-    )
-
-close-with-requires : tie.Need-close-with-requires
-close-with-requires c κs =
-    let d = c .before in
-    let b = d .before .before .before .before .before .before in
-    let a = b .before .before .before .before .before .before .before .before .before .before .before .before .args in
-    lent (now (a .key)) (now (a .iv)) (taking-data []) (taking-data (now (a .ad))) (b .begin-with .result .session) (d .data-with .result) _ (begun b) (told d) (d .before .before .fill .ensures)
-
-tag-over-requires : tie.Need-tag-over-requires
-tag-over-requires c κs =
-    let r = c .before .before in
-    let b = r .before .before .before .before .before .before .before .before in
-    let a = b .before .before .before .before .before .before .before .before .before .before .before .before .args in
-    lent (now (a .key)) (now (a .iv)) (taking-data []) (taking-text (now (a .ad)) []) (b .begin-with .result .session) (r .close-with .result) _ (begun b) (ready r) (r .before .before .before .before .fill .ensures)
+ready : (c : tie.After-session-of) → let a = c .before .before .before .before .before .before .before .before .before .before .before .before .before .args in sessionOf (c .session-of .result) ≡ session-at (now (a .key)) (now (a .iv)) (taking-text (now (a .ad)) [])
+ready c = let a = c .before .before .before .before .before .before .before .before .before .before .before .before .before .args in c .session-of .ensures .0 ∙ sym (session-is (now (a .key)) (now (a .iv)) (taking-text (now (a .ad)) []))
 
 -- ---- the comparison, and what it leads to
 
-compared : (c : tie.After-same) → let a = c .before .before .before .before .before .before .before .before .before .before .before .before .before .before .before .before .before .before .before .before .before .before .before .before .args in same (now (a .tag)) (tag-for (now (a .key)) (now (a .iv)) (now (a .ad)) (now (a .cipher))) ≡ c .same .result
+compared : (c : tie.After-same) → let a = c .before .before .before .before .before .before .before .before .before .before .before .before .before .before .before .before .before .args in same (now (a .tag)) (tag-for (now (a .key)) (now (a .iv)) (now (a .ad)) (now (a .cipher))) ≡ c .same .result
 compared c =
     let r = c .before .before .before .before in
-    let a = r .before .before .before .before .before .before .before .before .before .before .before .before .before .before .before .before .before .before .before .before .args in
-    let given = front-16 _ (now (a .tag)) (ordered (r .before .before .before .before .before .before .before .before .before .before .before) .tag-long) (c .before .before .before .load .ensures) in
+    let a = r .before .before .before .before .before .before .before .before .before .before .before .before .before .args in
+    let given = front-16 _ (now (a .tag)) (ordered (r .before .before .before .before) .tag-long) (c .before .before .before .load .ensures) in
     let expected = c .before .tag-over .ensures ∙ ap (λ (s : Session). tag-over s (now (a .cipher))) (ready r) ∙ tag-over-at (now (a .key)) (now (a .iv)) (now (a .ad)) (now (a .cipher)) in
     sym (c .same .ensures ∙ ap₂ same given expected)
 
@@ -86,13 +60,13 @@ unfolding session-at
 apply-keystream-requires c κs =
     let r = c .before .before .before .before .before .before .before in
     let e = ap (λ (s : Session). s .text) (ready r) in
-    (rw e refl, ordered (r .before .before .before .before .before .before .before .before .before .before .before) .room, r .before .before .before .before .before .before .before .before .before .before .table .ensures)
+    (rw e refl, ordered (r .before .before .before .before) .room, r .before .before .before .table .ensures)
 
 returns-2 : tie.Need-returns-2
 returns-2 c =
     let same = c .before .before .before .before .before .before in
     let r = same .before .before .before .before in
-    let o = r .before .before .before .before .before .before .before .before .before .before .before in
+    let o = r .before .before .before .before in
     let a = o .before .before .before .before .before .before .before .before .before .args in
     let key = now (a .key) in
     let iv = now (a .iv) in
@@ -109,7 +83,7 @@ returns-2 c =
 
 returns-3 : tie.Need-returns-3
 returns-3 c =
-    let o = c .before .before .before .before .before .before .before .before .before .before .before .before .before .before .before .before in
+    let o = c .before .before .before .before .before .before .before .before .before in
     let a = o .before .before .before .before .before .before .before .before .before .args in
     open-broken (now (a .key)) (now (a .iv)) (now (a .ad)) (now (a .cipher)) (now (a .tag)) (now (a .out)) (ordered o) (compared (c .before) ∙ c .if2 .left)
 
@@ -121,12 +95,9 @@ open-spec =
     (λ c. search needs)
     returns
     (λ c κs. search needs)
-    (λ c κs. c .before .table .ensures)
-    (λ c κs. search needs)
-    data-with-requires
-    close-with-requires
-    (λ c κs. omega (arith, ordered (c .before .before .before .before .before .before .before .before .before .before .before) .tag-long))
-    tag-over-requires
+    session-of-requires
+    (λ c κs. omega (arith, ordered (c .before .before .before .before) .tag-long))
+    (λ c κs. c .before .before .session-of .ensures .1)
     (λ c κs. search needs)
     apply-keystream-requires
     (λ c. search needs)

@@ -1,18 +1,24 @@
--- `page::seal` meets its contract: a refusal by the lengths, and else a session with one piece of data and one of text.
-use Prim.Native.Nat.{_≤_}
-use mathlib.Core.Path.{_≡_, refl, sym, ap, _∙_}
-use mathlib.Core.List.{[]}
+-- `page::seal` meets its contract: a refusal by the lengths, and else the page's pass, from its first block to its last, and the tag of the hash that it ends in.
+use Prim.Native.Nat.{_+_, _≤_}
+use mathlib.Core.Path.{_≡_, refl, sym, ap, subst, _∙_}
+use mathlib.Core.List.{append-nil}
 use native.Mathlib.Omega.{arith}
 use lib.ListN.{length}
 use denote.Ref.{now}
 use Rattle.scope.specs.Limits.{most-data, most-text}
+use Rattle.words.specs.Xor.{xors}
+use Rattle.words.specs.Bytes.{Row, IsBlock}
+use Rattle.words.proofs.Typed.{known-bytes}
+use Rattle.ghash.specs.Hash.{lengths, eat, ceil16, padded, ghash}
+use Rattle.ghash.specs.Machine.{bytesOfElement}
+use Rattle.start.specs.Start.{sealed-keystream}
 use Rattle.start.proofs.Answers.{lengths-right}
 use Rattle.session.specs.Session.{Session}
-use Rattle.session.specs.Machine.{sessionOf}
-use Rattle.session.specs.Pieces.{tag-of}
-use Rattle.page.proofs.Stages.{Stage.taking-data, Stage.taking-text, phase-at, session-at}
-use Rattle.page.proofs.Tags.{tag-at}
-use Rattle.page.proofs.AtOnce.{begun-session, lent, told-session, closed-session, whole-session, whole-out}
+use Rattle.session.specs.Pass.{SoFar, Sealed}
+use Rattle.page.specs.Page.{encrypted}
+use Rattle.page.specs.OnePass.{page-pass}
+use Rattle.page.specs.Reached.{session-of}
+use Rattle.page.proofs.OnePass.{one-pass, pass-ends}
 use Rattle.page.proofs.Answers.{seal-accepted, seal-writes, seal-gives}
 use Rattle.page.proofs.Refusing.{within, seal-start, seal-over, seal-short, seal-refused}
 use borrow.Author.Needs.{needs}
@@ -65,72 +71,57 @@ returns-3 c =
     let a = o .before .before .before .before .before .before .before .before .args in
     seal-refused (now (a .key)) (now (a .iv)) (now (a .ad)) (now (a .text)) (now (a .out)) (seal-short (now (a .key)) (now (a .iv)) (now (a .ad)) (now (a .text)) (now (a .out)) (n .0) (n .1) (sym (o .over-limit .ensures) ∙ x .if2 .left) (omega (arith, c .before .if3 .taken))) (λ z. omega arith) (c .refused3 .ensures)
 
--- ---- the session at each stage
+-- ---- the pass
 
-begun : (c : tie.After-begin-with) → let a = c .before .before .before .before .before .before .before .before .before .before .before .before .before .args in sessionOf (c .begin-with .result .session) ≡ session-at (now (a .key)) (now (a .iv)) (taking-data [])
-begun c = let o = c .before .before .before in begun-session (now (o .before .before .before .before .before .before .before .before .before .before .args .key)) (now (o .before .before .before .before .before .before .before .before .before .before .args .iv)) _ (key-long o) (iv-long o) (c .begin-with .ensures .session)
+session-of-requires : tie.Need-session-of-requires
+session-of-requires c κs =
+    let o = c .before .before .before in
+    (key-long o, iv-long o, ad-fits o, c .before .before .table .ensures, refl)
 
-told : (c : tie.After-data-with) → let a = c .before .before .before .before .before .before .before .before .before .before .before .before .before .before .before .before .before .before .before .args in sessionOf (c .data-with .result) ≡ session-at (now (a .key)) (now (a .iv)) (taking-data (now (a .ad)))
-told c = let a = c .before .before .before .before .before .before .before .before .before .before .before .before .before .before .before .before .before .before .before .args in told-session (now (a .key)) (now (a .iv)) (now (a .ad)) _ _ (begun (c .before .before .before .before .before .before)) (c .data-with .ensures)
+sealed-text-requires : tie.Need-sealed-text-requires
+sealed-text-requires c κs =
+    let r = c .before .before .before .before .before .before in
+    (room (r .before .before .before .before), record { of-rounds = r .before .before .before .table .ensures; of-h = r .session-of .ensures .1 })
 
-whole : (c : tie.After-text-with) → let a = c .before .before .before .before .before .before .before .before .before .before .before .before .before .before .before .before .before .before .before .before .before .before .before .args in sessionOf (c .text-with .result) ≡ session-at (now (a .key)) (now (a .iv)) (taking-text (now (a .ad)) (now (a .text)))
-whole c =
-    let a = c .before .before .before .before .before .before .before .before .before .before .before .before .before .before .before .before .before .before .before .before .before .before .before .args in
-    whole-session (now (a .key)) (now (a .iv)) (now (a .ad)) _ (closed-session (now (a .key)) (now (a .iv)) (now (a .ad)) _ _ (told (c .before .before .before .before)) refl) (now (a .text)) (now (a .out)) (now (a .out)) _ (c .text-with .ensures .0)
+-- key and IV are bytes
+key-row : (c : tie.Else3) → Row 32 256 (now (c .before .before .before .before .before .before .before .before .before .before .args .key))
+key-row c = record { long = key-long c; below = known-bytes (now (c .before .before .before .before .before .before .before .before .before .before .args .key)) (c .before .before .before .before .before .before .before .before .before .shared-slice-known .given) }
 
--- one table serves them
-data-with-requires : tie.Need-data-with-requires
-unfolding session-at phase-at
-data-with-requires c κs =
-    let b = c .before .before .before .before .before in
-    let e = begun b in
-    let n : b .begin-with .result .session .ad ≡ 0 = ap (λ (s : Session). s .ad) e in (
-      ap (λ (s : Session). s .phase) e,
-      omega (arith, ad-fits (b .before .before .before)),
-      c .before .fill .ensures,
-    )
+iv-row : (c : tie.Else3) → IsBlock (now (c .before .before .before .before .before .before .before .before .before .before .args .iv))
+iv-row c = record { long = iv-long c; below = known-bytes (now (c .before .before .before .before .before .before .before .before .before .before .args .iv)) (c .before .before .before .before .before .before .before .before .shared-slice-known2 .given) }
 
-text-with-requires : tie.Need-text-with-requires
-unfolding session-at
-text-with-requires c κs =
-    let d = c .before .before .before in
-    let b = d .before .before .before .before .before .before in
-    let a = b .before .before .before .before .before .before .before .before .before .before .before .before .before .args in
-    let e = told d in
-    let n : d .data-with .result .text ≡ 0 = ap (λ (s : Session). s .text) e in
-    let m : d .data-with .result .state .count ≡ 2 = ap (λ (s : Session). s .state .count) e in
-    let t = text-fits (b .before .before .before) in (
-      record { ordered = omega arith; read = omega arith; room = room (b .before .before .before); counts = omega arith },
-      record {
-        of-rounds = b .before .before .table .ensures;
-        of-h = lent (now (a .key)) (now (a .iv)) (taking-data []) (taking-data (now (a .ad))) (b .begin-with .result .session) (d .data-with .result) _ (begun b) e (d .before .before .fill .ensures);
-      },
-      omega (arith, m, t),
-    )
-
-tag-with-requires : tie.Need-tag-with-requires
-tag-with-requires c κs =
-    let w = c .before .before .before in
-    let b = w .before .before .before .before .before .before .before .before .before .before in
-    let a = b .before .before .before .before .before .before .before .before .before .before .before .before .before .args in
-    lent (now (a .key)) (now (a .iv)) (taking-data []) (taking-text (now (a .ad)) (now (a .text))) (b .begin-with .result .session) (w .text-with .result) _ (begun b) (whole w) (w .before .before .before .before .before .before .fill .ensures)
+-- after every block, and so after all of them
+done : (c : tie.After-sealed-text) → let a = c .before .before .before .before .before .before .before .before .before .before .before .before .before .before .before .before .before .before .before .before .before .args in
+    SoFar (page-pass (now (a .key)) (now (a .iv)) (now (a .ad)) (now (a .text)) (now (a .out))) (0 + ceil16 (length (now (a .text)))) (c .sealed-text .last .1 .1 .1 .1 .0) (bytesOfElement (c .sealed-text .result))
+unfolding session-of encrypted
+done c =
+    let r = c .before .before .before .before .before .before .before in
+    let o = r .before .before .before .before in
+    let a = o .before .before .before .before .before .before .before .before .before .before .args in
+    let n = ceil16 (length (now (a .text))) in
+    let p = one-pass (now (a .key)) (now (a .iv)) (now (a .ad)) (now (a .text)) (now (a .out)) (key-row o) (iv-row o) in
+    p .every-block 0 n n (omega arith) _ _ _ _
+    (subst (λ (s : Session). Sealed (s .h) (s .state .registers) (now (a .text)) 0 n (now (a .out)) (s .sum .hash) n (c .sealed-text .last .1 .1 .1 .1 .0) (bytesOfElement (c .sealed-text .result))) (r .session-of .ensures .0) (c .sealed-text .ensures))
+    (subst (SoFar (page-pass (now (a .key)) (now (a .iv)) (now (a .ad)) (now (a .text)) (now (a .out))) 0 (now (a .out))) (ap (ghash (sealed-keystream (now (a .key)) (now (a .iv)) 0)) (sym (append-nil (padded (now (a .ad)))))) (p .begins))
 
 returns-4 : tie.Need-returns-4
+unfolding session-of
 returns-4 c =
     let w = c .before .before .before .before .before in
-    let o = w .before .before .before .before .before .before .before .before .before .before .before .before .before in
+    let r = w .before .before .before .before .before .before .before in
+    let o = r .before .before .before .before in
     let a = o .before .before .before .before .before .before .before .before .before .before .args in
     let key = now (a .key) in
     let iv = now (a .iv) in
     let d = now (a .ad) in
     let t = now (a .text) in
-    let out = now (a .out) in (
+    let out = now (a .out) in
+    let end = pass-ends (now (a .key)) (now (a .iv)) (key-row o) (iv-row o) (now (a .ad)) (now (a .text)) (now (a .out)) _ _ (room o) (done w) in (
       sym (seal-accepted key iv d (key-long o) (iv-long o) (ad-fits o) t out (text-fits o) (room o)),
       (
-        c .to-bytes .ensures ∙ c .before .tag-with .ensures ∙ ap tag-of (whole w) ∙ tag-at (now (a .key)) (now (a .iv)) (taking-text (now (a .ad)) (now (a .text)))
+        c .to-bytes .ensures ∙ c .before .tag-from .ensures ∙ ap (λ (s : Session). xors (eat (s .h) (bytesOfElement (w .sealed-text .result)) (lengths (s .ad) (length t))) (s .pad)) (r .session-of .ensures .0) ∙ end .1
             ∙ sym (seal-gives key iv d (key-long o) (iv-long o) (ad-fits o) t out (text-fits o) (room o)),
-        whole-out (now (a .key)) (now (a .iv)) (now (a .ad)) _ (closed-session (now (a .key)) (now (a .iv)) (now (a .ad)) _ _ (told (w .before .before .before .before)) refl) (now (a .text)) (now (a .out)) _ (w .text-with .ensures .1)
-            ∙ sym (seal-writes key iv d (key-long o) (iv-long o) (ad-fits o) t out (text-fits o) (room o)),
+        end .0 ∙ sym (seal-writes key iv d (key-long o) (iv-long o) (ad-fits o) t out (text-fits o) (room o)),
       ),
     )
 
@@ -147,11 +138,9 @@ seal-spec =
     (λ c κs. search needs)
     returns-3
     (λ c κs. search needs)
-    (λ c κs. c .before .table .ensures)
-    (λ c κs. search needs)
-    data-with-requires
-    text-with-requires
-    tag-with-requires
+    session-of-requires
+    sealed-text-requires
+    (λ c κs. c .before .before .before .before .before .before .before .before .before .before .session-of .ensures .1)
     (λ c κs. search needs)
     (λ c. search needs)
     returns-4)

@@ -1,0 +1,22 @@
+-- A string with zeros behind it up to a whole number of blocks.
+use mathlib.Core.Path.{_≡_, ap, _∙_}
+use mathlib.Core.List.{List, _++_, append-nil, append-assoc}
+use Prim.Native.Nat.{ℕ, _-_, _%_, _<_, _≤_}
+use native.Mathlib.Omega.{arith}
+use lib.ListN.{length, replicate, length-append, length-replicate}
+use Rattle.ghash.specs.Hash.{padded}
+
+pub padded-whole : (s : List ℕ) → length (padded s) % 16 ≡ 0
+padded-whole s = simp (length-append, length-replicate) (omega arith)
+
+-- behind whole blocks; so that whole blocks themselves stay as they are, and a block that is not empty becomes a whole one
+pub padded-append : (s t : List ℕ) → length s % 16 ≡ 0 → padded (s ++ t) ≡ s ++ padded t
+padded-append s t e =
+    let n : (16 - length (s ++ t) % 16) % 16 ≡ (16 - length t % 16) % 16 = rw (length-append s t) (omega arith) in
+    ap (λ (k : ℕ). (s ++ t) ++ replicate k 0) n ∙ append-assoc s t (replicate ((16 - length t % 16) % 16) 0)
+
+pub padded-none : (s : List ℕ) → length s % 16 ≡ 0 → padded s ≡ s
+padded-none s e = rw e (append-nil s)
+
+pub padded-block : (s : List ℕ) → 0 < length s → length s ≤ 16 → length (padded s) ≡ 16
+padded-block s h k = simp (length-append, length-replicate) (omega arith)
