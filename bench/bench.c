@@ -262,10 +262,11 @@ static void compare(const struct row *r)
 
 /* ---- the stack that the library needs */
 
-/* A page with data sealed, opened, and sealed again by pieces. */
+/* A page with data sealed, opened, and sealed again by pieces; and the calls that no row makes. */
 static int sealed_and_opened(void)
 {
     uint8_t session[TULVEKAS_SESSION_BYTES], block[TULVEKAS_SUSPENDED_BYTES], state[TULVEKAS_STATE_BYTES], again[16], kept;
+    uint8_t date[TULVEKAS_DATE_BYTES], number[TULVEKAS_DAY_BYTES];
     return tulvekas_seal(key, sizeof key, iv, sizeof iv, zeros, 100, text, MOST_TEXT, out, sizeof out, tag, sizeof tag) == 0 &&
            tulvekas_open(key, sizeof key, iv, sizeof iv, zeros, 100, out, MOST_TEXT, tag, sizeof tag, expected, sizeof expected) == 0 &&
            memcmp(expected, text, MOST_TEXT) == 0 && tulvekas_begin(key, sizeof key, iv, sizeof iv, session, sizeof session) == 0 &&
@@ -275,7 +276,9 @@ static int sealed_and_opened(void)
            tulvekas_finish(session, sizeof session, again, sizeof again) == 0 && memcmp(expected, out, MOST_TEXT) == 0 &&
            memcmp(again, tag, sizeof tag) == 0 && tulvekas_state_of(block, sizeof block, state, sizeof state) == 0 &&
            tulvekas_start(key, sizeof key, iv, sizeof iv, 1, state, sizeof state) == 0 &&
-           tulvekas_run(state, sizeof state, MOST_TEXT / 16, 0, expected, sizeof expected) == 0 && tulvekas_kept(0, 0, &kept, 1) == 0;
+           tulvekas_run(state, sizeof state, MOST_TEXT / 16, 0, expected, sizeof expected) == 0 && tulvekas_kept(0, 0, &kept, 1) == 0 &&
+           tulvekas_date(0, date, sizeof date) == 0 && tulvekas_day(2000, 1, 1, number, sizeof number) == 0 &&
+           tulvekas_kept_until(0, date, sizeof date) == 0;
 }
 
 static void *all_calls(void *unused)
@@ -285,7 +288,7 @@ static void *all_calls(void *unused)
         if (can(peers, rows + i) && call(peers, rows + i) != 0)
             fail("a call failed", peers->name);
     if (!sealed_and_opened())
-        fail("sealed, opened and sealed by pieces do not agree", peers->name);
+        fail("a call failed, or sealed, opened and sealed by pieces do not agree", peers->name);
     return NULL;
 }
 

@@ -1,5 +1,5 @@
-/* Seals the pages of two stays into a page file and opens them by stay and page number; then shows what is refused: a page that is not there, one whose
- * ciphertext was changed, and all of them once a stored length is out of range. */
+/* Seals the pages of two stays into a page file, opens them by stay and page number and says until when they are kept; then shows what is refused: a
+ * date that the calendar lacks, a page that is not there, one whose ciphertext was changed, and all of them once a stored length is out of range. */
 #include <stdint.h>
 #include <stdio.h>
 #include <stdlib.h>
@@ -29,6 +29,22 @@ static void accepted(const char *call, uint64_t answer)
     }
 }
 
+/* Numbers in a page and in what the library writes have their low byte first. */
+static uint64_t number_in(const uint8_t *bytes, size_t len)
+{
+    uint64_t number = 0;
+    while (len-- > 0)
+        number = 256 * number + bytes[len];
+    return number;
+}
+
+static uint64_t day_of(uint64_t year, uint64_t month, uint64_t day)
+{
+    uint8_t number[TULVEKAS_DAY_BYTES];
+    accepted("day", tulvekas_day(year, month, day, number, sizeof number));
+    return number_in(number, sizeof number);
+}
+
 static void seal(const uint8_t *of, uint32_t page, uint64_t day, const char *text, uint64_t place)
 {
     accepted("file_seal", tulvekas_file_seal(key, sizeof key, of, TULVEKAS_STAY_BYTES, page, day, (const uint8_t *)text, strlen(text), place, file,
@@ -44,21 +60,62 @@ static void print_page(const uint8_t *of, uint32_t page)
     printf("%.*s, page %u: ", TULVEKAS_STAY_BYTES, (const char *)of, (unsigned)page);
     if (answer != TULVEKAS_ACCEPTED)
         printf("refused %llu\n", (unsigned long long)answer);
-    else /* at most 474: the upper six bytes of the length are 0 */
-        printf("%.*s\n", length[0] + 256 * length[1], (const char *)opened);
+    else
+        printf("%.*s\n", (int)number_in(length, sizeof length), (const char *)opened);
+}
+
+static void print_date(const uint8_t *date)
+{
+    printf("%04d-%02d-%02d", (int)number_in(date, 2), date[2], date[3]);
+}
+
+/* The stay at a place and its departure can be read there without the key. */
+static void print_stay(int place)
+{
+    printf("%.*s: ", TULVEKAS_STAY_BYTES, (const char *)file + TULVEKAS_PAGE_BYTES * place);
+}
+
+static uint64_t departure_at(int place)
+{
+    return number_in(file + TULVEKAS_PAGE_BYTES * place + 16, 4);
+}
+
+static void print_kept_until(int place)
+{
+    const uint64_t departure = departure_at(place);
+    uint8_t date[TULVEKAS_DATE_BYTES], until[TULVEKAS_DATE_BYTES];
+
+    accepted("date", tulvekas_date(departure, date, sizeof date));
+    accepted("kept_until", tulvekas_kept_until(departure, until, sizeof until));
+    print_stay(place);
+    printf("departure ");
+    print_date(date);
+    printf(", kept until ");
+    print_date(until);
+    putchar('\n');
+}
+
+static void print_kept(int place, uint64_t today)
+{
+    const uint64_t departure = departure_at(place);
+    uint8_t kept[1];
+
+    accepted("kept", tulvekas_kept(today, departure, kept, sizeof kept));
+    print_stay(place);
+    puts(kept[0] ? "kept" : "not kept");
 }
 
 /* The first page, by both calls as they are. */
 static void first_page(void)
 {
     static const uint8_t text[] = {'M', 'a', 'r', 'i', ' ', 'S', 'a', 'a', 'r'};
-    const uint64_t day = 9815, place = 0;
+    const uint64_t day = day_of(2026, 11, 15), place = 0;
     uint8_t opened[TULVEKAS_MOST_PAGE_TEXT], length[TULVEKAS_LENGTH_BYTES];
 
     accepted("file_seal", tulvekas_file_seal(key, sizeof key, stay, sizeof stay, 0, day, text, sizeof text, place, file, sizeof file));
     accepted("file_open",
              tulvekas_file_open(key, sizeof key, stay, sizeof stay, 0, file, sizeof file, opened, sizeof opened, length, sizeof length));
-    if (length[0] != sizeof text || memcmp(opened, text, sizeof text) != 0) {
+    if (number_in(length, sizeof length) != sizeof text || memcmp(opened, text, sizeof text) != 0) {
         fprintf(stderr, "the text differs\n");
         exit(1);
     }
@@ -66,9 +123,11 @@ static void first_page(void)
 
 int main(void)
 {
+    uint8_t number[TULVEKAS_DAY_BYTES];
+
     first_page();
-    seal(other, 0, 9816, "Jaan Tamm, Liis Tamm", 1);
-    seal(stay, 1, 9815, "tax for two nights: 4.00", 2);
+    seal(other, 0, day_of(2026, 8, 31), "Jaan Tamm, Liis Tamm", 1);
+    seal(stay, 1, day_of(2026, 11, 15), "tax for two nights: 4.00", 2);
 
     for (int place = 0; place < PLACES; place++) {
         printf("tag at place %d: ", place);
@@ -79,6 +138,18 @@ int main(void)
     print_page(stay, 0);
     print_page(stay, 1);
     print_page(other, 0);
+
+    print_kept_until(0);
+    print_kept_until(1);
+    puts("on 2028-02-29:");
+    print_kept(0, day_of(2028, 2, 29));
+    print_kept(1, day_of(2028, 2, 29));
+    puts("on 2028-03-01:");
+    print_kept(0, day_of(2028, 3, 1));
+    print_kept(1, day_of(2028, 3, 1));
+
+    puts("a date that the calendar lacks:");
+    printf("2026-02-29: refused %llu\n", (unsigned long long)tulvekas_day(2026, 2, 29, number, sizeof number));
 
     puts("a page that is not there:");
     print_page(stay, 2);

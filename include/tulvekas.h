@@ -22,7 +22,8 @@
  *     the buffers lent to it stays as it was; that it ends, and stays inside those buffers. Ciphertext and tag are those of definitions that
  *     render the paper, by pieces and in a page file as well; a session resumed is the one suspended; as many blocks back as forward, or
  *     forward as back, give the state again where neither run is refused; a trace finds the IV and mode that led to a state, and 6 exactly if
- *     none did. docs/PROMISES.md has the statements, and what they assume.
+ *     none did; the date of a day has that day again, and later days later dates; a page is kept up to its last date and on no later day.
+ *     docs/PROMISES.md has the statements, and what they assume.
  *   - Tested: that this page and the code agree. tests/differential compares every call with an implementation in Rust that was written from
  *     the documents, or from the definitions where these leave a session's bytes open, and the declarations and numbers below with those
  *     that the tests use.
@@ -51,6 +52,8 @@ extern "C" {
 #define TULVEKAS_PAGE_BYTES 512      /* a page of a page file */
 #define TULVEKAS_STAY_BYTES 12       /* a stay in a page file: with a page number of 4 bytes it is an IV */
 #define TULVEKAS_LENGTH_BYTES 8      /* the length of the text that tulvekas_file_open wrote */
+#define TULVEKAS_DATE_BYTES 4        /* a date: year, month, day */
+#define TULVEKAS_DAY_BYTES 8         /* the day number that tulvekas_day writes */
 
 /* Limits. */
 #define TULVEKAS_MOST_DATA 65535     /* bytes of associated data of a page or session */
@@ -58,7 +61,9 @@ extern "C" {
 #define TULVEKAS_MOST_PAGE_TEXT 474  /* bytes of text of a page in a page file */
 #define TULVEKAS_MOST_BLOCKS 65538   /* blocks of keystream, and the highest count of a state */
 #define TULVEKAS_LAST_DAY 73048      /* 31 December 2199; days count from 1 January 2000 as 0 */
-#define TULVEKAS_KEPT_DAYS 548       /* that a page is kept behind its departure */
+#define TULVEKAS_FIRST_YEAR 2000     /* of a date that has a day number */
+#define TULVEKAS_LAST_YEAR 2199
+#define TULVEKAS_KEPT_MONTHS 18      /* that a page is kept behind its departure */
 
 /* What a call answers. */
 #define TULVEKAS_ACCEPTED 0
@@ -74,7 +79,7 @@ extern "C" {
 #define TULVEKAS_COUNT_TOO_HIGH 9  /* more than 65,538 blocks: to be drawn at once, in a state's count, or where a run or a text would lead */
 #define TULVEKAS_TAG_LENGTH 10     /* tag not 16 bytes */
 #define TULVEKAS_MALFORMED 11      /* the input of the program `seal` is malformed; no call here gives it */
-#define TULVEKAS_DAY_RANGE 12      /* a day outside 0 to 73,048 */
+#define TULVEKAS_DAY_RANGE 12      /* a day outside 0 to 73,048, or a date that the calendar lacks or outside the years 2000 to 2199 */
 #define TULVEKAS_BAD_FILE 13       /* a page file's length, a place in it, a stored length, a stored day or the padding is not as it must be */
 #define TULVEKAS_BAD_STAY 14       /* the stay lacks the page, or its pages do not run 0, 1, 2 in file order, or their days differ */
 #define TULVEKAS_BEFORE_START 15   /* a run back past the start, where the count is 0 */
@@ -228,19 +233,47 @@ uint64_t tulvekas_trace(const uint8_t *state, size_t state_len, const uint8_t *k
  * Refuses: 8 (block not 512 bytes, or another of its rules broken), 4 (state shorter than 120). */
 uint64_t tulvekas_state_of(const uint8_t *block, size_t block_len, uint8_t *state, size_t state_len);
 
-/* ---- keeping
+/* ---- dates and keeping
  *
- * A day is a number: the days since 1 January 2000, which is day 0. A date in year y, n days after 1 January of that year, is day
+ * A day is a number: the days since 1 January 2000, which is day 0, up to TULVEKAS_LAST_DAY, which is 31 December 2199. A date is a year, a month
+ * from 1 to 12 and a day of that month from 1 on, by the Gregorian calendar. It is written in TULVEKAS_DATE_BYTES bytes:
  *
- *     365 * (y - 2000) + (y - 1997) / 4 - (y > 2100) + n
+ *     bytes      what stands there
+ *     0-1        year, low byte first
+ *     2          month
+ *     3          day of the month
  *
- * by C's integer division, for the years 2000 to 2199. So 15 November 2026, 318 days after 1 January 2026, is day 9490 + 7 - 0 + 318 = 9815. A page
- * of that departure is kept up to day 10363, which is 16 May 2028: tulvekas_kept(10363, 9815, &kept, 1) writes 1, and with 10364 it writes 0. */
+ * A page is kept for TULVEKAS_KEPT_MONTHS months: up to and including the same day of the month eighteen months after its departure, or the last
+ * day of that month where it lacks the day. That date may lie past 2199; it has no day number then, and every day is before it. The latest, for a
+ * departure on 31 December 2199, is 30 June 2201.
+ *
+ *     tulvekas_day(year, month, day, number, sizeof number)
+ *     tulvekas_date(departure, date, sizeof date)
+ *     tulvekas_kept_until(departure, until, sizeof until)
+ *     tulvekas_kept(today, departure, kept, sizeof kept)
+ *
+ * 31 August 2024 is day 9009, and a page of that departure is kept until 28 February 2026, which is day 9555: tulvekas_kept(9555, 9009, &kept, 1)
+ * writes 1, and with 9556, which is 1 March 2026, it writes 0. examples/page_file.c makes these calls for the stays of a page file. */
 
-/* Whether a page is kept today: exactly when today minus departure is at most 548, a departure still to come included.
+/* Gives the date of a day.
+ * Writes: the date, 4 bytes, to the front of date.
+ * Refuses: 12 (day over 73,048), 4 (date shorter than 4). */
+uint64_t tulvekas_date(uint64_t day, uint8_t *date, size_t date_len);
+
+/* Gives the day of a date.
+ * Writes: the day's number, 8 bytes low byte first, to the front of number.
+ * Refuses: 12 (no such date, as 29 February 2100, 31 April, month 0 or 13, day 0; or a year before 2000 or after 2199), 4 (number shorter than 8). */
+uint64_t tulvekas_day(uint64_t year, uint64_t month, uint64_t day, uint8_t *number, size_t number_len);
+
+/* Whether a page is kept today: exactly when today is on or before the date that tulvekas_kept_until gives, a departure still to come included.
  * Writes: 1 (kept) or 0 (not) to the first byte of kept.
- * Refuses: 12 (either day), 4 (kept shorter than 1). */
+ * Refuses: 12 (either day over 73,048), 4 (kept shorter than 1). */
 uint64_t tulvekas_kept(uint64_t today, uint64_t departure, uint8_t *kept, size_t kept_len);
+
+/* Gives the last date on which a page is kept, by the day of its departure.
+ * Writes: the date, 4 bytes, to the front of date.
+ * Refuses: 12 (departure over 73,048), 4 (date shorter than 4). */
+uint64_t tulvekas_kept_until(uint64_t departure, uint8_t *date, size_t date_len);
 
 /* ---- page files
  *

@@ -6,7 +6,8 @@ use lib.Dec.{lit<, eqb, eqb→eq}
 use Rattle.words.specs.Xor.{_⊕_}
 use Rattle.aes.specs.Field.{xtime, mulBits, gmul, square, powOnes, inverse, rotated, affine, sub}
 use Rattle.aes.specs.Unround.{unaffine, unsub}
-use Rattle.aes.proofs.Tests.{below, each, each-lt}
+use Rattle.words.proofs.Tests.{below}
+use Rattle.aes.proofs.Tests.{each, each-lt}
 use Rattle.aes.proofs.Products.{gmul-lt}
 
 -- what `inverse` is: each byte but 0 times it is 1

@@ -1,26 +1,11 @@
--- A test that antt computes at each number below a bound, one after the other, holds at every one of them.
-use mathlib.Core.Path.{_≡_, sym, subst}
-use mathlib.Core.Logic.{⊎-elim}
-use mathlib.Core.Bool.{Bool, true, _&&_}
+-- Equations, bounds and tables by a test that antt computes at each byte.
+use mathlib.Core.Path.{_≡_}
 use mathlib.Core.List.{List}
-use Prim.Native.Nat.{ℕ, zero, suc, _<_}
-use native.Mathlib.Omega.{arith}
-use native.Mathlib.Nat.{eq-or-lt-of-le, le-of-suc-le-suc}
+use Prim.Native.Nat.{ℕ, _<_}
 use lib.Dec.{T, eqb, ltb, eqb→eq, ltb→lt}
 use lib.ListN.{getD}
-use Rattle.words.proofs.Tests.{both-left, both-right}
+use Rattle.words.proofs.Tests.{passes, below}
 use Rattle.aes.specs.Tables.{Holds}
-
--- the test passes at each number below n
-abbrev pub passes : (ℕ → Bool) → ℕ → Bool
-passes f zero = true
-passes f (suc n) = f n && passes f n
-
-pub below : (f : ℕ → Bool) (n : ℕ) → T (passes f n) → (k : ℕ) → k < n → T (f k)
-below f zero t k h = absurd (omega arith)
-below f (suc n) t k h =
-    ⊎-elim (λ e. subst (λ (m : ℕ). T (f m)) (sym e) (both-left (f n) (passes f n) t)) (λ l. below f n (both-right (f n) (passes f n) t) k l)
-    (eq-or-lt-of-le (le-of-suc-le-suc h))
 
 -- an equation at each byte
 pub each : (f g : ℕ → ℕ) → T (passes (λ x. eqb (f x) (g x)) 256) → (x : ℕ) → x < 256 → f x ≡ g x

@@ -1,7 +1,7 @@
 -- The starred cases hold: the worked ones compute, and the two that speak of every block and every key follow from the laws of ⊞.
 use mathlib.Core.Path.{_≡_, refl, ap, ap₂, _∙_}
 use mathlib.Core.List.{List, [], _∷_, _++_}
-use Prim.Native.Nat.{ℕ, zero, suc, _+_, _^_, _<_}
+use Prim.Native.Nat.{ℕ, zero, suc, _^_, _<_}
 use native.Mathlib.Omega.{arith}
 use lib.Dec.{lit<}
 use lib.ListN.{length, getD, drop, replicate}
@@ -23,7 +23,7 @@ use Rattle.ghash.proofs.Product.{product-zero}
 use Rattle.ghash.proofs.Cases.{one-is, rightmost-is}
 use Rattle.page.specs.Page.{encrypted, tag-for, page-tag}
 use Rattle.page.proofs.Ciphertext.{stream-block}
-use Rattle.retention.proofs.Cases.{kept-at-548, not-kept-at-549}
+use Rattle.cases.proofs.DatesShown.{kept-28-february, not-kept-1-march}
 use Rattle.cipher.specs.Step.{T1, T2, sigma, z, step}
 use Rattle.cipher.specs.Run.{move, made, moves, zs}
 use Rattle.start.specs.Start.{Mode, mode-cells, load, sealed-keystream}
@@ -77,4 +77,4 @@ empty-page key iv k v =
 -- the list holds, every entry of it
 pub shown : All starred
 unfolding times over _⊕_ clock clocks unclock oldA oldB solve spread shl xtime mulBits gmul square powOnes inverse rotated affine sub gathered dot mixBy round zs moves move made step z T1 T2 sigma _⊞_ littles numbers little number xors
-shown = (refl, (refl, (refl, (refl, (refl, (refl, (refl, (refl, (no-carry, (one-is, (rightmost-is, (first-z, (empty-page, (kept-at-548, (not-kept-at-549, tt)))))))))))))))
+shown = (refl, (refl, (refl, (refl, (refl, (refl, (refl, (refl, (no-carry, (one-is, (rightmost-is, (first-z, (empty-page, (kept-28-february, (not-kept-1-march, tt)))))))))))))))

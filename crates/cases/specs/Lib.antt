@@ -1,2 +1,3 @@
 pub mod Starred
 pub mod Counts
+pub mod Dates

@@ -1,11 +1,10 @@
--- The starred cases of document 01, "Trial bookings", in its order: one list of statements about the definitions, and one statement that all
--- of them hold. Bytes and cells are numbers; a block is a list of 16 bytes.
-use Prim.Native.Nat.{ℕ, _+_, _^_, _<_, _≤_}
+-- The starred cases of document 01, "Trial bookings", in its order, with what document 02 puts in their place: one list of statements about the definitions,
+-- and one statement that all of them hold. Bytes and cells are numbers; a block is a list of 16 bytes.
+use Prim.Native.Nat.{ℕ, _^_, _<_}
 use mathlib.Core.Path.{_≡_}
 use mathlib.Core.Bool.{true, false}
 use mathlib.Core.List.{List, [], _∷_, _++_}
 use lib.ListN.{drop, replicate}
-use Rattle.scope.specs.Limits.{last-day}
 use Rattle.words.specs.Bytes.{Row, IsBlock, littles}
 use Rattle.words.specs.Sums.{_⊞_}
 use Rattle.lfsr.specs.Cells.{alpha, alpha⁻¹, beta, beta⁻¹}
@@ -17,6 +16,7 @@ use Rattle.cipher.specs.Step.{z}
 use Rattle.cipher.specs.Run.{forward, zs}
 use Rattle.start.specs.Start.{Mode, load, sealed-keystream, blank}
 use Rattle.page.specs.Page.{page-tag}
+use Rattle.calendar.specs.Calendar.{date, day-of}
 use Rattle.retention.specs.Keeping.{Verdict.decided, keeping}
 
 -- every statement of a list holds
@@ -55,7 +55,7 @@ starred =
     ∷ ((key iv : List ℕ) (m : Mode) → Row 32 256 key → z (load key iv m) ≡ drop 16 key)
     -- no data, no text: tag = end pad
     ∷ ((key iv : List ℕ) → Row 32 256 key → IsBlock iv → page-tag key iv [] [] ≡ sealed-keystream key iv 1)
-    -- day difference 548 kept, 549 not
-    ∷ ((today departure : ℕ) → today ≤ last-day → departure ≤ last-day → today ≡ departure + 548 → keeping today departure ≡ decided true)
-    ∷ ((today departure : ℕ) → today ≤ last-day → departure ≤ last-day → today ≡ departure + 549 → keeping today departure ≡ decided false)
+    -- document 02, S-4, in place of "Day difference 548 kept, 549 not": a departure on 31 August 2024 is kept on 28 February 2026, and not on 1 March
+    ∷ (keeping (day-of (date 2026 2 28)) (day-of (date 2024 8 31)) ≡ decided true)
+    ∷ (keeping (day-of (date 2026 3 1)) (day-of (date 2024 8 31)) ≡ decided false)
     ∷ []

@@ -35,6 +35,7 @@ use Rattle.claims_c.specs.Lists.{left, Buffers, CCall, c-call, c-calls, 
 use Rattle.claims_c.specs.ThroughC.{Stands, ResumesThroughC, TracesThroughC, NamedThroughC, ThroughC}
 use Rattle.claims_c.proofs.CipherThroughC.{keystream, tells-state, traces, seals}
 use Rattle.claims_c.proofs.FilesThroughC.{opens-file}
+use Rattle.claims_c.proofs.DatesThroughC.{day-through, kept-through, kept-byte, no-date, no-day, no-kept-date, no-verdict, no-room}
 use Rattle.claims_c.proofs.OnBytes.{stored, bytes, stands, data-left, text-left, answered, resumed-left, resumed-iv, resumed-fresh, sized-at}
 use Rattle.claims_c.proofs.StatesOnBytes.{stored-state, course-sized, course-left, stands-course, returned}
 
@@ -188,4 +189,12 @@ through-c =
       traces = traces;
       names = λ key iv l session room cs out room-512. names key iv l session room cs out room-512;
       names-run = names-run;
+      days = day-through;
+      kept-dates = kept-through;
+      kept = kept-byte;
+      no-date = no-date;
+      no-day = no-day;
+      no-kept-date = no-kept-date;
+      no-verdict = no-verdict;
+      no-room = no-room;
     }

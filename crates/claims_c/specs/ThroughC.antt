@@ -1,10 +1,12 @@
 -- That through C nothing is otherwise, so that the demands hold there as well. proofs/ThroughC.antt proves it.
-use Prim.Native.Nat.{ℕ, _*_, _≤_}
+use Prim.Native.Nat.{ℕ, _*_, _≤_, _<_}
 use mathlib.Core.Path.{_≡_}
+use mathlib.Core.Logic.{_⊎_}
 use mathlib.Core.Bool.{not}
 use mathlib.Core.List.{List, _∷_, _++_}
 use lib.ListN.{length, take, drop}
-use Rattle.scope.specs.Refusals.{granted}
+use Rattle.scope.specs.Limits.{last-day}
+use Rattle.scope.specs.Refusals.{pick, granted, short-output, day-range}
 use Rattle.words.specs.Bytes.{little}
 use Rattle.cipher.specs.Run.{forward}
 use Rattle.cipher.specs.State.{State, run-number, run-state, run-part}
@@ -20,6 +22,9 @@ use Rattle.claims.specs.Claims.{Keyed}
 use Rattle.page.specs.Calls.{seal-number, seal-out, seal-tag}
 use Rattle.page_file.specs.Calls as Files
 use Rattle.page_file.specs.Calls.{Opened, open-out, open-answer}
+use Rattle.calendar.specs.Calendar.{Date, on-or-before, date-of}
+use Rattle.calendar.specs.Calls.{Dated, Dated.dated, to-date, to-day}
+use Rattle.retention.specs.Keeping.{last-date, kept-until, keeping}
 use Rattle.tulvekas.specs.Order.{next}
 use Rattle.tulvekas.specs.Pages.{seal-answer, seal-writes, seal-writes-tag}
 use Rattle.tulvekas.specs.Files.{file-open-answer, file-open-writes, file-open-length}
@@ -27,6 +32,7 @@ use Rattle.tulvekas.specs.StateBytes.{state-bytes, state-in}
 use Rattle.tulvekas.specs.SessionBytes.{session-bytes, session-in}
 use Rattle.tulvekas.specs.Sessions.{data-answer, text-answer, text-writes, finish-answer, finish-writes, suspend-answer, suspend-writes, resume-answer, resume-writes}
 use Rattle.tulvekas.specs.Cipher.{mode-named, fitting, keystream-answer, keystream-writes, back-named, run-answer, run-writes, state-of-answer, mode-byte, trace-of-bytes, trace-answer, trace-iv, trace-sealed}
+use Rattle.tulvekas.specs.Dates.{Reply, Reply.bytes, reply-answer, reply-writes, date-in, date-reply, day-reply, kept-reply}
 use Rattle.claims_c.specs.Lists.{left, CCall, c-after, below, left-state, c-run, c-course}
 
 -- bytes b on which every call for C answers and writes what the call below does on the session s
@@ -84,6 +90,23 @@ abbrev pub ToldOpened : Opened → (len : List ℕ) → ℕ → (len′ : List �
 ToldOpened (Files.Opened.written k) len n len′ = (n ≡ 0) × (len′ ≡ little 8 k ++ drop 8 len)
 ToldOpened (Files.Opened.refused k) len n len′ = (n ≡ k) × (len′ ≡ len)
 
+-- A date's four bytes, in a buffer with room, are answered 0 and list it; what lies behind stays.
+pub record DateThroughC (a : Dated) (d : Date) (out : List ℕ) : Type 0 where
+  pub answered : reply-answer (date-reply a) out ≡ 0
+  pub lists : date-in (reply-writes (date-reply a) out) ≡ d
+  pub behind : drop 4 (reply-writes (date-reply a) out) ≡ drop 4 out
+
+-- The date of a day goes to C so, and the day of the date that C then hands back is answered 0 and is the day again.
+pub record DayThroughC (n : ℕ) (out number : List ℕ) : Type 0 where
+  pub date : DateThroughC (to-date n) (date-of n) out
+  pub answered : reply-answer (day-reply (to-day (date-in (reply-writes (date-reply (to-date n)) out)))) number ≡ 0
+  pub again : reply-writes (day-reply (to-day (date-in (reply-writes (date-reply (to-date n)) out)))) number ≡ little 8 n ++ drop 8 number
+
+-- A call is refused with this number, and its buffer is as it was.
+pub record RefusedThroughC (a : Reply) (n : ℕ) (out : List ℕ) : Type 0 where
+  pub answered : reply-answer a out ≡ n
+  pub untouched : reply-writes a out ≡ out
+
 pub record ThroughC : Type 0 where
   -- Through C every list of calls leaves the bytes of the session that the same list leaves below, whatever stood in them before.
   pub stands : (key iv : Bytes) → Keyed key iv → (session : List ℕ) → length session ≡ 224 → (cs : List CCall)
@@ -125,3 +148,19 @@ pub record ThroughC : Type 0 where
   -- and trace from the bytes that a list of runs leaves tells its start's IV and mode.
   pub names-run : (key iv : Bytes) → Keyed key iv → (mode : ℕ) (state : List ℕ) → length state ≡ 120 → (rs : List Run)
       → TracesThroughC (c-course key iv mode state rs) (key .list) (origin (iv .list) (mode-named mode))
+  -- Through C every day has its date, and that date the day; `kept_until` writes the last date of keeping; and `kept` writes 1 exactly if the date that
+  -- `date` writes for today is on or before the one that `kept_until` writes for the departure.
+  pub days : (n : ℕ) → n ≤ last-day → (out number : List ℕ) → 4 ≤ length out → 8 ≤ length number → DayThroughC n out number
+  pub kept-dates : (departure : ℕ) → departure ≤ last-day → (out : List ℕ) → 4 ≤ length out
+      → DateThroughC (kept-until departure) (last-date (date-of departure)) out
+  pub kept : (today departure : ℕ) → today ≤ last-day → departure ≤ last-day → (out date until : List ℕ) → 1 ≤ length out → 4 ≤ length date → 4 ≤ length until
+      → (reply-answer (kept-reply (keeping today departure)) out ≡ 0)
+      × (reply-writes (kept-reply (keeping today departure)) out
+      ≡ pick (on-or-before (date-in (reply-writes (date-reply (to-date today)) date)) (date-in (reply-writes (date-reply (kept-until departure)) until))) 1 0 ∷ drop 1 out)
+  -- What is refused below is refused through C with its number, in a buffer of any length: a day past the last, a date that no day has, either day of keeping.
+  pub no-date : (n : ℕ) → last-day < n → (out : List ℕ) → RefusedThroughC (date-reply (to-date n)) day-range out
+  pub no-day : (d : Date) → ((n : ℕ) → to-date n ≡ dated d → ⊥) → (number : List ℕ) → RefusedThroughC (day-reply (to-day d)) day-range number
+  pub no-kept-date : (departure : ℕ) → last-day < departure → (out : List ℕ) → RefusedThroughC (date-reply (kept-until departure)) day-range out
+  pub no-verdict : (today departure : ℕ) → (last-day < today) ⊎ (last-day < departure) → (out : List ℕ) → RefusedThroughC (kept-reply (keeping today departure)) day-range out
+  -- Any bytes that the buffer has no room for are refused with 4.
+  pub no-room : (v out : List ℕ) → length out < length v → RefusedThroughC (bytes v) short-output out

@@ -1,1 +1,3 @@
-pub mod Cases
+pub mod Months
+pub mod Claimed
+pub mod Reckoned

@@ -1,4 +1,4 @@
--- The limits of documents 01 and 02, named once. Lengths are in bytes, counts in blocks of 16 bytes, days in days.
+-- The limits of documents 01 and 02, named once. Lengths are in bytes, counts in blocks of 16 bytes.
 use Prim.Native.Nat.{ℕ}
 
 abbrev pub most-data : ℕ
@@ -19,9 +19,16 @@ most-page-text = 474
 abbrev pub last-day : ℕ
 last-day = 73048
 
--- for how many days after its departure a page is kept
-abbrev pub kept-days : ℕ
-kept-days = 548
+-- the first and the last year of a date that has a day
+abbrev pub first-year : ℕ
+first-year = 2000
+
+abbrev pub last-year : ℕ
+last-year = 2199
+
+-- for how many months after its departure a page is kept
+abbrev pub kept-months : ℕ
+kept-months = 18
 
 -- hex digits in a line of the program's input
 abbrev pub most-digits : ℕ

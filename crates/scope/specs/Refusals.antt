@@ -62,7 +62,7 @@ tag-length = 10
 abbrev pub malformed : ℕ
 malformed = 11
 
--- 12 no such day: a day outside 0 to 73,048
+-- 12 no such day: a day outside 0 to 73,048; document 02: a date that is lacking or outside 2000 to 2199
 abbrev pub day-range : ℕ
 day-range = 12
 

@@ -44,10 +44,14 @@ pub const MOST_BLOCKS: u64 = 65538;
 // Bytes of text in a page of a page file.
 pub const MOST_PAGE_TEXT: usize = 474;
 
-// The last day that days count to, and for how many days after its departure a page is kept.
+// The last day that days count to, the first and the last year of a date that has a day, and for how many months after its departure a page is kept.
 pub const LAST_DAY: u64 = 73048;
 
-pub const KEPT_DAYS: u64 = 548;
+pub const FIRST_YEAR: u64 = 2000;
+
+pub const LAST_YEAR: u64 = 2199;
+
+pub const KEPT_MONTHS: u64 = 18;
 
 // Hex digits in a line of the program's input.
 pub const MOST_DIGITS: usize = 8192;

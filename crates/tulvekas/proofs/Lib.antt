@@ -6,4 +6,4 @@ pub mod PageAnswers
 pub mod FileAnswers
 pub mod SessionAnswers
 pub mod CipherAnswers
-pub mod KeptAnswers
+pub mod Replies

@@ -5,4 +5,5 @@ pub mod Sessions
 pub mod Pages
 pub mod Files
 pub mod Cipher
-pub mod Keeping
+pub mod Dates
+pub mod Inner

@@ -2,12 +2,12 @@
 // refusal, which changes no lent byte; bytes behind what is written stay. Nothing is kept between calls but what the caller was handed: a
 // session is 224 lent bytes, a state 120. Rust's rule for references holds for C as well: a buffer that a call writes overlaps no other buffer of that call.
 ghost use mathlib.Core.Path.{_≡_};
-ghost use mathlib.Core.List.{List, [], _∷_, _++_};
+ghost use mathlib.Core.List.{List, _++_};
 ghost use Prim.Native.Nat.{ℕ, _+_, _≤_};
 ghost use lib.ListN.{length, drop};
 ghost use lib.Seq.{sets};
 ghost use Rattle.scope.specs.Refusals.{short-output};
-ghost use Rattle.words.specs.Bytes.{part};
+ghost use Rattle.words.specs.Bytes.{little, part};
 ghost use Rattle.words.specs.Machine.{bytesOf};
 ghost use Rattle.ghash.specs.Machine.{bytesOfElement};
 ghost use Rattle.cipher.specs.Machine.{stateOf};
@@ -15,7 +15,11 @@ ghost use Rattle.start.specs.Machine.{modeOf};
 ghost use Rattle.session.specs.Machine.{sessionOf};
 ghost use Rattle.page.specs.Calls.{seal-number, open-number, open-out};
 ghost use Rattle.page_file.specs.Calls as Files;
-ghost use Rattle.retention.specs.Keeping.{keeping};
+ghost use Rattle.calendar.specs.Calendar;
+ghost use Rattle.calendar.specs.Calls.{to-date, to-day};
+ghost use Rattle.calendar.specs.Inner.{Small};
+ghost use Rattle.calendar.specs.Machine.{dateOf, datedOf};
+ghost use Rattle.retention.specs.Keeping.{keeping, kept-until};
 ghost use Rattle.tulvekas.specs.Order.{next, room, buffer-after};
 ghost use Rattle.tulvekas.specs.StateBytes.{state-bytes, state-in, LeavesState};
 ghost use Rattle.tulvekas.specs.SessionBytes.{session-in, Leaves};
@@ -23,7 +27,11 @@ ghost use Rattle.tulvekas.specs.Pages.{seal-answer, seal-writes, seal-wr
 ghost use Rattle.tulvekas.specs.Files.{file-open-answer, file-open-writes, file-open-length};
 ghost use Rattle.tulvekas.specs.Sessions.{is-session, begin-answer, begin-leaves, data-answer, data-leaves, text-answer, text-leaves, text-writes, finish-answer, finish-leaves, finish-writes, suspend-answer, suspend-writes, resume-answer, resume-leaves, resume-writes};
 ghost use Rattle.tulvekas.specs.Cipher.{mode-named, keystream-answer, keystream-writes, start-answer, start-leaves, run-answer, run-leaves, run-writes, state-of-answer, state-of-leaves, trace-of-bytes, mode-byte, trace-answer, trace-iv, trace-sealed};
-ghost use Rattle.tulvekas.specs.Keeping.{kept-answer, kept-byte};
+ghost use Rattle.tulvekas.specs.Dates.{reply-answer, reply-writes, date-bytes, date-reply, day-reply, kept-reply};
+ghost use Rattle.tulvekas.specs.Inner.{FitsBytes};
+use calendar::Date;
+use calendar::Dated;
+use calendar::Numbered;
 use cipher::State;
 use cipher::lanes;
 use ghash::Element;
@@ -45,6 +53,10 @@ const SESSION_BYTES: usize = 224;
 const STATE_BYTES: usize = 120;
 
 const LENGTH_BYTES: usize = 8;
+
+const DATE_BYTES: usize = 4;
+
+const DAY_BYTES: usize = 8;
 
 // Sixteen bytes to the front of a buffer.
 fn put_block(out: &mut [u8], b: [u8; 16])
@@ -521,30 +533,83 @@ pub extern "C" fn tulvekas_trace(state: &[u8], key: &[u8], iv: &mut [u8], sealed
     }
 }
 
-// ---- keeping
+// ---- dates and keeping
 
-// One byte to the front of a buffer.
-fn put_byte(out: &mut [u8], b: u8) -> u64
-    ensures answer { λ r. ⌜ r ≡ room 1 (now (out .entry)) 0 ⌝ }
-    ensures out { λ _. ⌜ now (out .exit) ≡ buffer-after (room 1 (now (out .entry)) 0) 1 (b ∷ []) (now (out .entry)) ⌝ }
+// The k low bytes of n, low byte first, to the front of a buffer. Refused: 4.
+fn reply(out: &mut [u8], k: usize, n: u64) -> u64
+    ensures answer { λ r. ⌜ r ≡ room k (now (out .entry)) 0 ⌝ }
+    ensures out { λ _. ⌜ now (out .exit) ≡ buffer-after (room k (now (out .entry)) 0) k (little k n) (now (out .entry)) ⌝ }
 {
-    if out.len() < 1 {
+    if out.len() < k {
         return scope::SHORT_OUTPUT;
     }
-    out[0] = b;
+    fields::put(out, 0, k, n);
     scope::ACCEPTED
+}
+
+// The number whose four low bytes are a date's.
+fn date_number(d: Date) -> u64
+    requires { ⌜ Small (dateOf d) ⌝ }
+    ensures { λ r. ⌜ little 4 r ≡ date-bytes (dateOf d) ⌝ }
+{
+    d.year + 65536 * d.month + 16777216 * d.day
+}
+
+// A date's four bytes to the front of a buffer. Refused: what the answer refuses, 4.
+fn reply_date(t: Dated, out: &mut [u8]) -> u64
+    requires { ⌜ FitsBytes (datedOf t) ⌝ }
+    ensures answer { λ r. ⌜ r ≡ reply-answer (date-reply (datedOf t)) (now (out .entry)) ⌝ }
+    ensures out { λ _. ⌜ now (out .exit) ≡ reply-writes (date-reply (datedOf t)) (now (out .entry)) ⌝ }
+{
+    match t {
+        Dated::Refused(n) => n,
+        Dated::Found(d) => reply(out, DATE_BYTES, date_number(d)),
+    }
+}
+
+// The date of a day, in four bytes: the year, low byte first, the month, the day. Days count from 1 January 2000 as 0. Refused: 12 for a day after 73,048, 4.
+#[no_mangle]
+pub extern "C" fn tulvekas_date(day: u64, date: &mut [u8]) -> u64
+    ensures answer { λ r. ⌜ r ≡ reply-answer (date-reply (to-date day)) (now (date .entry)) ⌝ }
+    ensures date { λ _. ⌜ now (date .exit) ≡ reply-writes (date-reply (to-date day)) (now (date .entry)) ⌝ }
+{
+    let t = calendar::to_date(day);
+    reply_date(t, date)
+}
+
+// The day of a date, in 8 bytes, low byte first. Refused: 12 for a date that the calendar lacks or outside the years 2000 to 2199, 4.
+#[no_mangle]
+pub extern "C" fn tulvekas_day(year: u64, month: u64, day: u64, number: &mut [u8]) -> u64
+    ensures answer { λ r. ⌜ r ≡ reply-answer (day-reply (to-day (Calendar.date year month day))) (now (number .entry)) ⌝ }
+    ensures number { λ _. ⌜ now (number .exit) ≡ reply-writes (day-reply (to-day (Calendar.date year month day))) (now (number .entry)) ⌝ }
+{
+    let t = calendar::to_day(year, month, day);
+    match t {
+        Numbered::Refused(n) => n,
+        Numbered::Found(n) => reply(number, DAY_BYTES, n),
+    }
 }
 
 // Whether a page is kept today, by the day of its departure: one byte that becomes 1 if it is, else 0. Refused: 12, 4.
 #[no_mangle]
 pub extern "C" fn tulvekas_kept(today: u64, departure: u64, kept: &mut [u8]) -> u64
-    ensures answer { λ r. ⌜ r ≡ kept-answer (keeping today departure) (now (kept .entry)) ⌝ }
-    ensures kept { λ _. ⌜ now (kept .exit) ≡ kept-byte (keeping today departure) (now (kept .entry)) ⌝ }
+    ensures answer { λ r. ⌜ r ≡ reply-answer (kept-reply (keeping today departure)) (now (kept .entry)) ⌝ }
+    ensures kept { λ _. ⌜ now (kept .exit) ≡ reply-writes (kept-reply (keeping today departure)) (now (kept .entry)) ⌝ }
 {
     let v = retention::kept(today, departure);
     match v {
         Verdict::Refused(n) => n,
-        Verdict::Kept => put_byte(kept, 1),
-        Verdict::NotKept => put_byte(kept, 0),
+        Verdict::Kept => reply(kept, 1, 1),
+        Verdict::NotKept => reply(kept, 1, 0),
     }
+}
+
+// The last date on which a page is kept, by the day of its departure, in four bytes as tulvekas_date writes them. Refused: 12, 4.
+#[no_mangle]
+pub extern "C" fn tulvekas_kept_until(departure: u64, date: &mut [u8]) -> u64
+    ensures answer { λ r. ⌜ r ≡ reply-answer (date-reply (kept-until departure)) (now (date .entry)) ⌝ }
+    ensures date { λ _. ⌜ now (date .exit) ≡ reply-writes (date-reply (kept-until departure)) (now (date .entry)) ⌝ }
+{
+    let t = retention::kept_until(departure);
+    reply_date(t, date)
 }

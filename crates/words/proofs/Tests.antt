@@ -1,8 +1,12 @@
--- Tests that are computed: both of two that hold together, two of which neither holds, and whether two lists are the same.
-use mathlib.Core.Path.{_≡_, refl, sym, ap₂}
+-- Tests that are computed: both of two that hold together, two of which neither holds, one at each number below a bound, and whether two lists are the
+-- same.
+use mathlib.Core.Path.{_≡_, refl, sym, subst, ap₂}
+use mathlib.Core.Logic.{⊎-elim}
 use mathlib.Core.Bool.{Bool, true, false, _&&_, _||_}
 use mathlib.Core.List.{List, [], _∷_}
-use Prim.Native.Nat.{ℕ}
+use Prim.Native.Nat.{ℕ, zero, suc, _<_}
+use native.Mathlib.Omega.{arith}
+use native.Mathlib.Nat.{eq-or-lt-of-le, le-of-suc-le-suc}
 use borrow.Author.Tests.{eq-eqb, eqb-true}
 use lib.Dec.{T, eqb}
 use Rattle.words.specs.Bytes.{same}
@@ -33,6 +37,17 @@ pub both-ways : (a b : Bool) → (a ≡ true → b ≡ true) → (b ≡ true →
 both-ways true b f g = sym (f refl)
 both-ways false true f g = g refl
 both-ways false false f g = refl
+
+-- the test passes at each number below n
+abbrev pub passes : (ℕ → Bool) → ℕ → Bool
+passes f zero = true
+passes f (suc n) = f n && passes f n
+
+pub below : (f : ℕ → Bool) (n : ℕ) → T (passes f n) → (k : ℕ) → k < n → T (f k)
+below f zero t k h = absurd (omega arith)
+below f (suc n) t k h =
+    ⊎-elim (λ e. subst (λ (m : ℕ). T (f m)) (sym e) (both-left (f n) (passes f n) t)) (λ l. below f n (both-right (f n) (passes f n) t) k l)
+    (eq-or-lt-of-le (le-of-suc-le-suc h))
 
 pub same-refl : (s : List ℕ) → same s s ≡ true
 unfolding same

@@ -2,6 +2,7 @@
 //! short gives 4 last; a session, block or state of another length than its own gives 8 where it is read.
 
 use crate::block::Block;
+use crate::calendar::{self, Date};
 use crate::cipher::{self, iv as iv_of, Direction, Key, Mode, State, MOST_BLOCKS};
 use crate::keeping;
 use crate::page;
@@ -17,6 +18,10 @@ pub const SESSION_BYTES: usize = 224;
 pub const STATE_BYTES: usize = 120;
 /// `TULVEKAS_LENGTH_BYTES`.
 pub const LENGTH_BYTES: usize = 8;
+/// `TULVEKAS_DATE_BYTES`.
+pub const DATE_BYTES: usize = 4;
+/// `TULVEKAS_DAY_BYTES`.
+pub const DAY_BYTES: usize = 8;
 
 type Answer<T> = Result<T, Refusal>;
 
@@ -39,6 +44,15 @@ fn state_in(state: &[u8]) -> Answer<State> {
 fn put_state(state: &State, out: &mut [u8]) -> Answer<()> {
     room(out.len(), STATE_BYTES)?;
     out[..STATE_BYTES].copy_from_slice(&state.to_bytes());
+    Ok(())
+}
+
+/// Writes a date to the front of a buffer. Refuses 4.
+fn put_date(date: Date, out: &mut [u8]) -> Answer<()> {
+    room(out.len(), DATE_BYTES)?;
+    out[..2].copy_from_slice(&(date.year as u16).to_le_bytes());
+    out[2] = date.month as u8;
+    out[3] = date.day as u8;
     Ok(())
 }
 
@@ -163,12 +177,30 @@ pub fn trace(state: &[u8], key: &[u8], iv: &mut [u8], sealed: &mut [u8]) -> Answ
     Ok(())
 }
 
+/// `tulvekas_date`: 12, 4.
+pub fn date(day: u64, date: &mut [u8]) -> Answer<()> {
+    put_date(calendar::date(day)?, date)
+}
+
+/// `tulvekas_day`: 12, 4.
+pub fn day(year: u64, month: u64, day: u64, number: &mut [u8]) -> Answer<()> {
+    let found = calendar::day(Date { year, month, day })?;
+    room(number.len(), DAY_BYTES)?;
+    number[..DAY_BYTES].copy_from_slice(&found.to_le_bytes());
+    Ok(())
+}
+
 /// `tulvekas_kept`: 12, 4.
 pub fn kept(today: u64, departure: u64, kept: &mut [u8]) -> Answer<()> {
     let answer = keeping::kept(today, departure)?;
     room(kept.len(), 1)?;
     kept[0] = u8::from(answer);
     Ok(())
+}
+
+/// `tulvekas_kept_until`: 12, 4.
+pub fn kept_until(departure: u64, date: &mut [u8]) -> Answer<()> {
+    put_date(keeping::kept_until(departure)?, date)
 }
 
 /// `tulvekas_file_seal`: 1, 2, 3, 12, 13.

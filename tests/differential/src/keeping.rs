@@ -1,14 +1,24 @@
-//! The keeping rule: document 01, "Whole pages, keeping, program".
+//! The keeping rule: document 02, S-4, "Eighteen calendar months", in the place of document 01's.
 
-use crate::refusal::{require, Refusal};
+use crate::calendar::{date, month_length, Date};
+use crate::refusal::Refusal;
 
-/// The last day; days count from 1 January 2000 as 0.
-pub const LAST_DAY: u64 = 73_048;
-/// Days that a page is kept behind its departure.
-pub const KEPT_DAYS: i64 = 548;
+/// Months that a page is kept behind its departure.
+pub const KEPT_MONTHS: u64 = 18;
 
-/// Whether a page is kept: today minus departure is at most 548, negative included. Refuses 12, for either day.
+/// "Same day eighteen months on, or that month's last day where the day is lacking".
+fn months_on(date: Date, months: u64) -> Date {
+    let month = 12 * date.year + (date.month - 1) + months;
+    let (year, month) = (month / 12, month % 12 + 1);
+    Date { year, month, day: date.day.min(month_length(year, month)) }
+}
+
+/// The last date on which a page is kept, which may lie past 2199. Refuses 12.
+pub fn kept_until(departure: u64) -> Result<Date, Refusal> {
+    Ok(months_on(date(departure)?, KEPT_MONTHS))
+}
+
+/// Whether a page is kept: today is on or before that date. Refuses 12, for either day.
 pub fn kept(today: u64, departure: u64) -> Result<bool, Refusal> {
-    require(today <= LAST_DAY && departure <= LAST_DAY, Refusal::DayRange)?;
-    Ok(today as i64 - departure as i64 <= KEPT_DAYS)
+    Ok(date(today)? <= kept_until(departure)?)
 }

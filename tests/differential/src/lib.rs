@@ -1,8 +1,8 @@
 //! SNOW-V, SNOW-V-GCM and the sealing of guest pages, written from the documents and not from the code of the library under test.
 //!
 //! "The paper" is document 001: Ekdahl, Johansson, Maximov, Yang, "A new SNOW stream cipher called SNOW-V". "Document 01" is the
-//! contract of the library: refusals and their orders, sessions, the suspended block, trace, the keeping rule and the program.
-//! "Document 02" is what was asked for later: the page file, and states that count their blocks. Where the first two differ about the
+//! contract of the library: refusals and their orders, sessions, the suspended block, trace and the program. "Document 02" is what was
+//! asked for later: the page file, states that count their blocks, dates, and keeping by calendar months. Where the first two differ about the
 //! cipher, the paper decides. The form of a session in bytes, which they leave open, is taken from the definition that the library's contracts name.
 //!
 //! Each module renders one part of them, as plainly as it stands there: cells of 16 bits, one clock at a time, GHASH bit by bit.
@@ -13,6 +13,7 @@
 
 pub mod aes;
 pub mod block;
+pub mod calendar;
 pub mod calls;
 pub mod cipher;
 #[allow(unsafe_code)]

@@ -1,7 +1,7 @@
 //! Page files: document 02, S-1, "A stay book on disk". A page file is its book.
 
+use crate::calendar::LAST_DAY;
 use crate::cipher::Key;
-use crate::keeping::LAST_DAY;
 use crate::page;
 use crate::refusal::{require, Refusal};
 

@@ -26,7 +26,7 @@ pub enum Refusal {
     TagLength = 10,
     /// "unreadable": input of the program malformed; no call of the header gives it.
     Malformed = 11,
-    /// "no such day": day outside 0 to 73,048.
+    /// "no such day": day outside 0 to 73,048; a date that is lacking or outside 2000 to 2199 (S-4).
     DayRange = 12,
     /// A page file's length, a place in it, a stored length, a stored day or the padding is not as document 02 has it (S-1).
     BadFile = 13,

@@ -1,7 +1,8 @@
-//! The reference alone against document 01's trial bookings, document 02's page file and counts, and both directions of the cipher against each
-//! other.
+//! The reference alone against document 01's trial bookings, document 02's page file, counts, dates and keeping, and both directions of the cipher
+//! against each other.
 
 use reference::block::plus;
+use reference::calendar::{self, Date};
 use reference::cipher::{run, Direction, Key, Mode, Registers, State, MOST_BLOCKS};
 use reference::lfsr::{alpha, alpha_inverse, beta, beta_inverse, clock, clock_back};
 use reference::refusal::Refusal;
@@ -201,13 +202,66 @@ fn counts_of_sessions() {
     }
 }
 
+/// S-4's dates: where the days begin and end, leap years, and dates that are lacking.
 #[test]
-fn kept_days() {
-    assert_eq!(keeping::kept(548, 0), Ok(true));
-    assert_eq!(keeping::kept(549, 0), Ok(false));
+fn dates() {
+    for (number, year, month, day) in [
+        (0, 2000, 1, 1),
+        (59, 2000, 2, 29),
+        (60, 2000, 3, 1),
+        (366, 2001, 1, 1),
+        (9_009, 2024, 8, 31),
+        (36_583, 2100, 2, 28),
+        (36_584, 2100, 3, 1),
+        (73_048, 2199, 12, 31),
+    ] {
+        let date = Date { year, month, day };
+        assert_eq!((calendar::date(number), calendar::day(date)), (Ok(date), Ok(number)));
+    }
+    assert_eq!(calendar::date(73_049), Err(Refusal::DayRange));
+    assert_eq!(calendar::date(u64::MAX), Err(Refusal::DayRange));
+    for (year, month, day) in [
+        (2100, 2, 29),
+        (2026, 2, 29),
+        (2024, 2, 30),
+        (2024, 4, 31),
+        (2024, 0, 1),
+        (2024, 13, 1),
+        (2024, 1, 0),
+        (2024, 1, 32),
+        (1999, 12, 31),
+        (2200, 1, 1),
+        (0, 0, 0),
+        (u64::MAX, u64::MAX, u64::MAX),
+    ] {
+        assert_eq!(calendar::day(Date { year, month, day }), Err(Refusal::DayRange), "{year} {month} {day}");
+    }
+}
+
+/// S-4's edges: 28 February kept and 1 March not, and dates past 2199.
+#[test]
+fn kept_months() {
+    let day = |year, month, day| calendar::day(Date { year, month, day }).unwrap();
+    let departure = day(2024, 8, 31);
+    assert_eq!(keeping::kept_until(departure), Ok(Date { year: 2026, month: 2, day: 28 }));
+    assert_eq!(keeping::kept(day(2026, 2, 28), departure), Ok(true));
+    assert_eq!(keeping::kept(day(2026, 3, 1), departure), Ok(false));
+    assert_eq!(keeping::kept(day(2026, 3, 2), departure), Ok(false));
+    assert_eq!(keeping::kept_until(day(2022, 8, 30)), Ok(Date { year: 2024, month: 2, day: 29 }));
+    assert_eq!(keeping::kept_until(day(2098, 8, 29)), Ok(Date { year: 2100, month: 2, day: 28 }));
+    assert_eq!(keeping::kept_until(0), Ok(Date { year: 2001, month: 7, day: 1 }));
+
+    assert_eq!(keeping::kept_until(73_048), Ok(Date { year: 2201, month: 6, day: 30 }));
+    assert_eq!(keeping::kept(73_048, 73_048), Ok(true));
+    assert_eq!(keeping::kept_until(day(2198, 7, 1)), Ok(Date { year: 2200, month: 1, day: 1 }));
+    assert_eq!(keeping::kept(73_048, day(2198, 7, 1)), Ok(true));
+    assert_eq!(keeping::kept(73_048, day(2198, 6, 30)), Ok(false));
+
     assert_eq!(keeping::kept(0, 73_048), Ok(true));
+    assert_eq!(keeping::kept(73_048, 0), Ok(false));
     assert_eq!(keeping::kept(73_049, 0), Err(Refusal::DayRange));
     assert_eq!(keeping::kept(0, 73_049), Err(Refusal::DayRange));
+    assert_eq!(keeping::kept_until(73_049), Err(Refusal::DayRange));
 }
 
 /// The bytes of a page as S-1 lists them, and a page opened by stay and page number, not by place.

@@ -1,14 +1,16 @@
 //! The examples in C and Python.
 
 use reference::block::Block;
+use reference::calendar::{self, Date};
 use reference::cipher::{run, Direction, Key, Mode, State};
 use reference::refusal::Refusal;
 use reference::session::Session;
-use reference::{page_file, suspended, trace};
+use reference::{keeping, page_file, suspended, trace};
 use std::path::Path;
 use std::process::Command;
 
-/// examples/run seals, suspends, resumes and opens a page in each language, seals and opens pages of a file, and walks and traces states.
+/// examples/run seals, suspends, resumes and opens a page in each language, seals and opens pages of a file and says until when they are kept,
+/// and walks and traces states.
 #[test]
 fn examples() {
     let script = Path::new(env!("CARGO_MANIFEST_DIR")).join("../../examples/run");
@@ -25,24 +27,54 @@ fn hex(bytes: &[u8]) -> String {
     bytes.iter().map(|byte| format!("{byte:02x}")).collect()
 }
 
+const PAGE_FILE: &str = include_str!("../../../examples/page_file.stdout");
+
+/// The day of a date that is not lacking.
+fn day(year: u64, month: u64, day: u64) -> u64 {
+    calendar::day(Date { year, month, day }).unwrap()
+}
+
 /// The tags that the examples of a page file must print are the reference's.
 #[test]
 fn tags_of_the_page_file() {
     let key = key();
     let mut file = [0; 4 * 512];
     let pages: [(&[u8], u32, u64, &[u8]); 3] = [
-        (b"2026 no. 042", 0, 9_815, b"Mari Saar"),
-        (b"2026 no. 043", 0, 9_816, b"Jaan Tamm, Liis Tamm"),
-        (b"2026 no. 042", 1, 9_815, b"tax for two nights: 4.00"),
+        (b"2026 no. 042", 0, day(2026, 11, 15), b"Mari Saar"),
+        (b"2026 no. 043", 0, day(2026, 8, 31), b"Jaan Tamm, Liis Tamm"),
+        (b"2026 no. 042", 1, day(2026, 11, 15), b"tax for two nights: 4.00"),
     ];
     for (place, (stay, page, day, text)) in (0..).zip(pages) {
         page_file::seal(&key, stay, page, day, text, place, &mut file).unwrap();
     }
-    let expected = include_str!("../../../examples/page_file.stdout");
     for (place, page) in file.chunks(512).enumerate() {
         let tag = hex(&page[496..]);
-        assert!(expected.contains(&format!("tag at place {place}: {tag}\n")), "place {place}");
+        assert!(PAGE_FILE.contains(&format!("tag at place {place}: {tag}\n")), "place {place}: {tag}");
     }
+}
+
+/// What they must print of departures and of which stays are kept is the reference's.
+#[test]
+fn kept_stays_of_the_page_file() {
+    let written = |date: Date| format!("{:04}-{:02}-{:02}", date.year, date.month, date.day);
+    let on = |day| written(calendar::date(day).unwrap());
+    let stays = [("2026 no. 042", day(2026, 11, 15)), ("2026 no. 043", day(2026, 8, 31))];
+    let mut printed = String::new();
+    for (stay, departure) in stays {
+        let until = keeping::kept_until(departure).unwrap();
+        printed += &format!("{stay}: departure {}, kept until {}\n", on(departure), written(until));
+    }
+    for today in [day(2028, 2, 29), day(2028, 3, 1)] {
+        printed += &format!("on {}:\n", on(today));
+        for (stay, departure) in stays {
+            let kept = if keeping::kept(today, departure).unwrap() { "kept" } else { "not kept" };
+            printed += &format!("{stay}: {kept}\n");
+        }
+    }
+    let lacking = Date { year: 2026, month: 2, day: 29 };
+    let refusal = calendar::day(lacking).unwrap_err();
+    printed += &format!("a date that the calendar lacks:\n{}: refused {}\n", written(lacking), refusal as u64);
+    assert!(PAGE_FILE.contains(&printed), "{printed}");
 }
 
 /// What the examples of states must print is what the reference gives.

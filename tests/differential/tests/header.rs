@@ -1,8 +1,9 @@
 //! The declarations and numbers that the tests use are those of include/tulvekas.h, and none of its calls is left out. The calls that it shows
 //! are made by the examples, and its days are those of the calendar.
 
+use reference::calendar::{date, Date};
 use reference::refusal::Refusal;
-use reference::{calls, cipher, keeping, page, page_file, suspended};
+use reference::{calendar, calls, cipher, keeping, page, page_file, suspended};
 use std::collections::BTreeMap;
 
 const HEADER: &str = include_str!("../../../include/tulvekas.h");
@@ -52,7 +53,7 @@ fn from_c(text: &str) -> String {
 fn calls_are_declared_as_in_the_header() {
     let header = calls_of(&code(HEADER), "uint64_t tulvekas_", from_c);
     let declared = calls_of(DECLARATIONS, "pub fn tulvekas_", str::to_string);
-    assert_eq!(header.len(), 16);
+    assert_eq!(header.len(), 19);
     assert_eq!(declared, header);
 }
 
@@ -76,12 +77,16 @@ fn numbers_are_those_of_the_header() {
         ("PAGE_BYTES", page_file::PAGE_BYTES as u64),
         ("STAY_BYTES", page_file::STAY_BYTES as u64),
         ("LENGTH_BYTES", calls::LENGTH_BYTES as u64),
+        ("DATE_BYTES", calls::DATE_BYTES as u64),
+        ("DAY_BYTES", calls::DAY_BYTES as u64),
         ("MOST_DATA", page::MOST_DATA),
         ("MOST_TEXT", page::MOST_TEXT),
         ("MOST_PAGE_TEXT", page_file::MOST_PAGE_TEXT as u64),
         ("MOST_BLOCKS", cipher::MOST_BLOCKS),
-        ("LAST_DAY", keeping::LAST_DAY),
-        ("KEPT_DAYS", keeping::KEPT_DAYS as u64),
+        ("LAST_DAY", calendar::LAST_DAY),
+        ("FIRST_YEAR", calendar::FIRST_YEAR),
+        ("LAST_YEAR", calendar::LAST_YEAR),
+        ("KEPT_MONTHS", keeping::KEPT_MONTHS),
         ("ACCEPTED", 0),
         ("KEY_LENGTH", Refusal::KeyLength as u64),
         ("IV_LENGTH", Refusal::IvLength as u64),
@@ -113,37 +118,31 @@ fn shown_calls_are_those_of_the_examples() {
     let examples = EXAMPLES.map(words);
     let indented = HEADER.lines().filter_map(|line| line.strip_prefix(" *     "));
     let shown: Vec<_> = indented.filter(|line| line.starts_with("tulvekas_") && line.ends_with(')')).collect();
-    assert_eq!(shown.len(), 15);
+    assert_eq!(shown.len(), 19);
     for call in shown {
         assert!(examples.iter().any(|example| example.contains(call)), "{call}");
     }
 }
 
-/// The header's formula, at every day from 1 January 2000 to the last, and its example.
+/// A date in words.
+fn said(date: Date) -> String {
+    let months = ["January", "February", "March", "April", "May", "June", "July", "August", "September", "October", "November", "December"];
+    format!("{} {} {}", date.day, months[date.month as usize - 1], date.year)
+}
+
+/// The dates that the header names for days, and its example.
 #[test]
-fn days_are_those_of_the_calendar() {
+fn dates_are_those_of_the_calendar() {
     let header = words(HEADER);
-    assert!(header.contains("365 * (y - 2000) + (y - 1997) / 4 - (y > 2100) + n"));
-    let mut day = 0;
-    let mut named = BTreeMap::new();
-    for y in 2000..=2199_u64 {
-        let leap = y % 4 == 0 && (y % 100 != 0 || y % 400 == 0);
-        let months = [31, if leap { 29 } else { 28 }, 31, 30, 31, 30, 31, 31, 30, 31, 30, 31];
-        let mut n = 0;
-        for (month, length) in (1..).zip(months) {
-            for date in 1..=length {
-                assert_eq!(365 * (y - 2000) + (y - 1997) / 4 - u64::from(y > 2100) + n, day);
-                named.insert((y, month, date), (day, n));
-                (day, n) = (day + 1, n + 1);
-            }
-        }
-    }
-    assert_eq!(named[&(2199, 12, 31)].0, keeping::LAST_DAY);
-    let (departure, n) = named[&(2026, 11, 15)];
-    assert!(header.contains(&format!("15 November 2026, {n} days after 1 January 2026, is day 9490 + 7 - 0 + {n} = {departure}.")));
-    assert_eq!(9490 + 7 + n, departure);
-    let (last, _) = named[&(2028, 5, 16)];
-    assert!(header.contains(&format!("day {last}, which is 16 May 2028: tulvekas_kept({last}, {departure}, &kept, 1) writes 1")));
-    assert!(header.contains(&format!("with {} it writes 0", last + 1)));
-    assert_eq!((keeping::kept(last, departure), keeping::kept(last + 1, departure)), (Ok(true), Ok(false)));
+    let requires = |text: String| assert!(header.contains(&text), "{text}");
+    let on = |day| said(date(day).unwrap());
+    let last = calendar::LAST_DAY;
+    requires(format!("since {}, which is day 0, up to TULVEKAS_LAST_DAY, which is {}.", on(0), on(last)));
+    requires(format!("for a departure on {}, is {}.", on(last), said(keeping::kept_until(last).unwrap())));
+    let until = keeping::kept_until(9_009).unwrap();
+    let edge = calendar::day(until).unwrap();
+    requires(format!("{} is day 9009, and a page of that departure is kept until {}, which is day {edge}:", on(9_009), said(until)));
+    requires(format!("tulvekas_kept({edge}, 9009, &kept, 1) writes 1, and with {}, which is {}, it writes 0.", edge + 1, on(edge + 1)));
+    assert_eq!((keeping::kept(edge, 9_009), keeping::kept(edge + 1, 9_009)), (Ok(true), Ok(false)));
+    assert_eq!(on(9_009), "31 August 2024");
 }

@@ -1,9 +1,11 @@
 -- `tulvekas::tulvekas_kept` meets its contract, by what the keeping rule decides.
-use mathlib.Core.Path.{sym, ap, _∙_}
-use mathlib.Core.Bool.{true, false}
+use mathlib.Core.Path.{refl, sym, ap, _∙_}
+use mathlib.Core.List.{[], _∷_}
 use denote.Ref.{now}
+use Rattle.words.specs.Bytes.{little}
 use Rattle.retention.specs.Machine.{verdictOf}
-use Rattle.tulvekas.proofs.KeptAnswers.{kept-refused, kept-decided}
+use Rattle.tulvekas.specs.Dates.{kept-reply}
+use Rattle.tulvekas.proofs.Replies.{reply-refused, reply-bytes}
 use borrow.Author.Needs.{needs}
 use Rattle.tulvekas.proofs.tulvekas_kept.Statement.{statement}
 use Rattle.tulvekas.proofs.tulvekas_kept.Tie as tie
@@ -12,21 +14,23 @@ returns : tie.Need-returns
 returns c =
     let x = c .before .v .given in
     let k = c .before .before .before in
-    kept-refused (now (k .before .before .args .kept)) (x .0 .0) (sym (k .kept .ensures) ∙ ap verdictOf (x .1))
+    reply-refused (now (k .before .before .args .kept)) (x .0 .0) (ap kept-reply (sym (k .kept .ensures) ∙ ap verdictOf (x .1)))
 
 returns-2 : tie.Need-returns-2
+unfolding little
 returns-2 c =
     let p = c .before .before in
     let t = p .before .before in
     let k = t .before .before in
-    kept-decided (now (k .before .before .args .kept)) true (sym (k .kept .ensures) ∙ ap verdictOf (t .enum-told .given .1)) (p .put-byte .ensures .0) (p .put-byte .ensures .1)
+    reply-bytes (now (k .before .before .args .kept)) 1 (1 ∷ []) refl (ap kept-reply (sym (k .kept .ensures) ∙ ap verdictOf (t .enum-told .given .1))) (p .reply .ensures .0) (p .reply .ensures .1)
 
 returns-3 : tie.Need-returns-3
+unfolding little
 returns-3 c =
     let p = c .before .before in
     let t = p .before .before in
     let k = t .before .before in
-    kept-decided (now (k .before .before .args .kept)) false (sym (k .kept .ensures) ∙ ap verdictOf (t .enum-told2 .given .1)) (p .put-byte2 .ensures .0) (p .put-byte2 .ensures .1)
+    reply-bytes (now (k .before .before .args .kept)) 1 (0 ∷ []) refl (ap kept-reply (sym (k .kept .ensures) ∙ ap verdictOf (t .enum-told2 .given .1))) (p .reply2 .ensures .0) (p .reply2 .ensures .1)
 
 pub tulvekas-kept-spec : {M : Type 1} → statement M
 tulvekas-kept-spec =

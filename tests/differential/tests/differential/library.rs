@@ -75,7 +75,10 @@ extern "C" {
         sealed_len: usize,
     ) -> u64;
     pub fn tulvekas_state_of(block: *const u8, block_len: usize, state: *mut u8, state_len: usize) -> u64;
+    pub fn tulvekas_date(day: u64, date: *mut u8, date_len: usize) -> u64;
+    pub fn tulvekas_day(year: u64, month: u64, day: u64, number: *mut u8, number_len: usize) -> u64;
     pub fn tulvekas_kept(today: u64, departure: u64, kept: *mut u8, kept_len: usize) -> u64;
+    pub fn tulvekas_kept_until(departure: u64, date: *mut u8, date_len: usize) -> u64;
     pub fn tulvekas_file_seal(
         key: *const u8,
         key_len: usize,

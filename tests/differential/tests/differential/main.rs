@@ -4,6 +4,7 @@
 //! `TULVEKAS_CANARIES=0` each buffer is an allocation of its own, for runs under a memory checker.
 
 mod arbitrary;
+mod calendar;
 mod cipher;
 mod cuts;
 mod keeping;

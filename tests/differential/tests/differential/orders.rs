@@ -2,6 +2,7 @@
 
 use crate::arbitrary::COUNT_AT;
 use crate::tester::{FileOpen, FileSeal, Session, Tester, SESSION_BYTES, STATE_BYTES};
+use reference::calendar::Date;
 use reference::cipher::{Key, Mode, Registers};
 use reference::page;
 use reference::suspended::check;
@@ -511,15 +512,69 @@ fn order_of_state_of() {
     t.done();
 }
 
+/// Days within and beyond the calendar.
+const DAYS: [u64; 7] = [0, 9_009, 9_555, 73_048, 73_049, 1 << 32, u64::MAX];
+
+#[test]
+fn order_of_date() {
+    let mut t = Tester::new("order of date");
+    for day in DAYS {
+        for date_len in [4, 0, 3, 5, 9] {
+            let answer = t.date_in(day, date_len).0;
+            t.expect("date", answer, first(&[(day > 73_048, 12), (date_len < 4, 4)]));
+        }
+    }
+    t.done();
+}
+
+#[test]
+fn order_of_day() {
+    let mut t = Tester::new("order of day");
+    let dates = [
+        ((2000, 1, 1), true),
+        ((2000, 2, 29), true),
+        ((2199, 12, 31), true),
+        ((1999, 12, 31), false),
+        ((2200, 1, 1), false),
+        ((2024, 0, 1), false),
+        ((2024, 13, 1), false),
+        ((2024, 1, 0), false),
+        ((2024, 1, 32), false),
+        ((2024, 4, 31), false),
+        ((2023, 2, 29), false),
+        ((2100, 2, 29), false),
+        ((u64::MAX, u64::MAX, u64::MAX), false),
+    ];
+    for ((year, month, day), good) in dates {
+        for number_len in [8, 0, 4, 7, 9, 16] {
+            let answer = t.day_in(Date { year, month, day }, number_len).0;
+            t.expect("day", answer, first(&[(!good, 12), (number_len < 8, 4)]));
+        }
+    }
+    t.done();
+}
+
 #[test]
 fn order_of_kept() {
     let mut t = Tester::new("order of kept");
-    for today in [0, 548, 549, 73_048, 73_049, u64::MAX] {
-        for departure in [0, 548, 549, 73_048, 73_049, u64::MAX] {
+    for today in DAYS {
+        for departure in DAYS {
             for kept_len in [0, 1, 2] {
                 let answer = t.kept(today, departure, kept_len).0;
                 t.expect("kept", answer, first(&[(today > 73_048 || departure > 73_048, 12), (kept_len < 1, 4)]));
             }
+        }
+    }
+    t.done();
+}
+
+#[test]
+fn order_of_kept_until() {
+    let mut t = Tester::new("order of kept_until");
+    for departure in DAYS {
+        for date_len in [4, 0, 3, 5, 9] {
+            let answer = t.kept_until_in(departure, date_len).0;
+            t.expect("kept_until", answer, first(&[(departure > 73_048, 12), (date_len < 4, 4)]));
         }
     }
     t.done();

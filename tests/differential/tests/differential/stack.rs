@@ -75,6 +75,8 @@ fn of_a_page(random: &mut Random, data_len: usize, text_len: usize) -> Vec<(&'st
     let (s, b, y) = (session.as_mut_ptr(), block.as_mut_ptr(), byte.as_mut_ptr());
     let (mut found, mut state, blocks) = ([0; 16], [0; STATE_BYTES], m as u64 / 16);
     let (f, a) = (found.as_mut_ptr(), state.as_mut_ptr());
+    let (mut date, mut number) = ([0; 4], [0; 8]);
+    let (e, r) = (date.as_mut_ptr(), number.as_mut_ptr());
     let mut taken = Vec::new();
     let mut take = |name, call: &dyn Fn() -> u64| take(&mut taken, name, call);
     unsafe {
@@ -97,7 +99,10 @@ fn of_a_page(random: &mut Random, data_len: usize, text_len: usize) -> Vec<(&'st
         for back in [0, 1] {
             take("run", &|| tulvekas_run(a, STATE_BYTES, blocks, back, o, m));
         }
+        take("date", &|| tulvekas_date(9_009, e, 4));
+        take("day", &|| tulvekas_day(2024, 8, 31, r, 8));
         take("kept", &|| tulvekas_kept(1_000, 500, y, 1));
+        take("kept_until", &|| tulvekas_kept_until(9_009, e, 4));
     }
     taken
 }

@@ -4,6 +4,7 @@
 use crate::lent::Lent;
 use crate::library::*;
 use crate::random::Random;
+use reference::calendar::Date;
 use reference::calls;
 use reference::refusal::number;
 use std::collections::BTreeMap;
@@ -67,6 +68,11 @@ fn difference(found: &[u8], expected: &[u8]) -> String {
     let at = found.iter().zip(expected).position(|(found, expected)| found != expected).unwrap_or(0);
     let end = found.len().min(at + 16);
     format!("from byte {at} of {}: {:02x?}, expected {:02x?}", found.len(), &found[at..end], &expected[at..end])
+}
+
+/// The date at the front of some bytes: year, low byte first, month, day.
+fn date_of(bytes: &[u8]) -> Date {
+    Date { year: u64::from(bytes[0]) + 256 * u64::from(bytes[1]), month: u64::from(bytes[2]), day: u64::from(bytes[3]) }
 }
 
 /// Takes over what an accepted call has written to a session.
@@ -456,6 +462,46 @@ impl Tester {
         }
     }
 
+    /// Gives what is left of the date's buffer beside the answer.
+    pub fn date_in(&mut self, day: u64, date_len: usize) -> (u64, Vec<u8>) {
+        let mut date = self.lend_output("date", date_len);
+        let mut our_date = date.lent().to_vec();
+        let expected = number(&calls::date(day, &mut our_date));
+        let found = unsafe { tulvekas_date(day, date.written(), date.len()) };
+        self.compare(&format!("date {day}"), found, expected, &[(&date, Left::Bytes(&our_date))]);
+        (found, our_date)
+    }
+
+    /// The date of a day that has one.
+    pub fn date(&mut self, day: u64) -> Date {
+        let spare = if self.random.one_in(2) { 0 } else { self.random.below(40) };
+        let (answer, date) = self.date_in(day, calls::DATE_BYTES + spare);
+        self.expect("date", answer, 0);
+        date_of(&date)
+    }
+
+    /// Gives what is left of the number's buffer beside the answer.
+    pub fn day_in(&mut self, date: Date, number_len: usize) -> (u64, Vec<u8>) {
+        let Date { year, month, day } = date;
+        let mut lent = self.lend_output("number", number_len);
+        let mut our_number = lent.lent().to_vec();
+        let expected = number(&calls::day(year, month, day, &mut our_number));
+        let found = unsafe { tulvekas_day(year, month, day, lent.written(), lent.len()) };
+        self.compare(&format!("day {year} {month} {day}"), found, expected, &[(&lent, Left::Bytes(&our_number))]);
+        (found, our_number)
+    }
+
+    /// The day of a date, or the number of the refusal.
+    pub fn day(&mut self, date: Date) -> Result<u64, u64> {
+        let spare = if self.random.one_in(2) { 0 } else { self.random.below(40) };
+        let (answer, number) = self.day_in(date, calls::DAY_BYTES + spare);
+        if answer == 0 {
+            Ok(u64::from_le_bytes(number[..8].try_into().unwrap()))
+        } else {
+            Err(answer)
+        }
+    }
+
     pub fn kept(&mut self, today: u64, departure: u64, kept_len: usize) -> (u64, Vec<u8>) {
         let mut kept = self.lend_output("kept", kept_len);
         let mut our_kept = kept.lent().to_vec();
@@ -464,6 +510,24 @@ impl Tester {
         let call = format!("kept {today} {departure}");
         self.compare(&call, found, expected, &[(&kept, Left::Bytes(&our_kept))]);
         (found, our_kept)
+    }
+
+    /// Gives what is left of the date's buffer beside the answer.
+    pub fn kept_until_in(&mut self, departure: u64, date_len: usize) -> (u64, Vec<u8>) {
+        let mut date = self.lend_output("date", date_len);
+        let mut our_date = date.lent().to_vec();
+        let expected = number(&calls::kept_until(departure, &mut our_date));
+        let found = unsafe { tulvekas_kept_until(departure, date.written(), date.len()) };
+        self.compare(&format!("kept_until {departure}"), found, expected, &[(&date, Left::Bytes(&our_date))]);
+        (found, our_date)
+    }
+
+    /// The last date on which a page of a good departure is kept.
+    pub fn kept_until(&mut self, departure: u64) -> Date {
+        let spare = if self.random.one_in(2) { 0 } else { self.random.below(40) };
+        let (answer, date) = self.kept_until_in(departure, calls::DATE_BYTES + spare);
+        self.expect("kept_until", answer, 0);
+        date_of(&date)
     }
 
     /// Gives the file that is left beside the answer.

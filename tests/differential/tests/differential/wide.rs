@@ -168,7 +168,10 @@ fn accepted(t: &mut Tester, written: &mut Zeros, page: [&[u8]; 6]) {
             t.fail("run", "forward and back do not return the state".into());
         }
         check(t, "finish", tulvekas_finish(s, SESSION_BYTES, w, WIDE + 3), tag);
+        check(t, "date", tulvekas_date(9_009, w, WIDE + 3), &[0xe8, 0x07, 8, 31]);
+        check(t, "day", tulvekas_day(2024, 8, 31, w, WIDE + 3), &9_009_u64.to_le_bytes());
         check(t, "kept", tulvekas_kept(5, 5, w, WIDE), &[1]);
+        check(t, "kept_until", tulvekas_kept_until(9_009, w, WIDE + 3), &[0xea, 0x07, 2, 28]);
     }
 }
 

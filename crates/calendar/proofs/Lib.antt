@@ -1,0 +1,6 @@
+pub mod Counting
+pub mod Dates
+pub mod Answers
+pub mod Claimed
+pub mod March
+pub mod Formulas

@@ -1,0 +1,5 @@
+pub mod Calendar
+pub mod Calls
+pub mod Machine
+pub mod Laws
+pub mod Inner
