@@ -20,7 +20,7 @@ leap year = (divides 4 year && not (divides 100 year)) || divides 400 year
 abbrev pub month-lengths : (in-leap-year : Bool) → List ℕ
 month-lengths l = 31 ∷ pick l 29 28 ∷ 31 ∷ 30 ∷ 31 ∷ 30 ∷ 31 ∷ 31 ∷ 30 ∷ 31 ∷ 30 ∷ 31 ∷ []
 
--- the length of a month, months counted from 1; what it says of another month makes no difference, since whoever asks tests the month too
+-- the length of a month, months counted from 1; what it says of another month does not count, since the calendar has no date there
 unfoldable pub month-length : (year month : ℕ) → ℕ
 month-length year month = getD (month-lengths (leap year)) (month - 1) 0
 

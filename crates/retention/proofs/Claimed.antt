@@ -6,7 +6,7 @@ use Prim.Native.Nat.{ℕ, _+_, _-_, _/_, _%_, _≤_, _<_}
 use native.Mathlib.Omega.{arith}
 use lib.Dec.{leb, ltb}
 use borrow.Author.Tests.{lt-ltb, le-ltb, ltb-true, ltb-false, le-leb, lt-leb, leb-false}
-use Rattle.scope.specs.Limits.{last-day, kept-months}
+use Rattle.scope.specs.Limits.{last-year, last-day, kept-months}
 use Rattle.scope.specs.Refusals.{day-range}
 use Rattle.words.proofs.Tests.{neither}
 use Rattle.calendar.specs.Calendar.{Date, on-or-before, date-of, day-of}
@@ -166,6 +166,14 @@ to-come today departure h k =
     let d = date-of departure in
     by-days today departure (omega arith) k ∙ ap decided (le-leb today (day-of (last-date d)) (omega (arith, last-date-later d (real-of departure), day-of-date departure)))
 
+-- today's year is not past the last
+past-last-year : (today departure : ℕ) → today ≤ last-day → departure ≤ last-day → last-year < last-date (date-of departure) .year
+    → keeping today departure ≡ decided true
+unfolding on-or-before
+past-last-year today departure h k y =
+    keeping-is today departure h k
+    ∙ rw (lt-ltb (date-of today .year) (last-date (date-of departure) .year) (omega (arith, year-most today h)))
+
 no-such-day : (today departure : ℕ) → (last-day < today) ⊎ (last-day < departure) → keeping today departure ≡ refused day-range
 no-such-day today departure (inl h) = today-out today departure h
 no-such-day today departure (inr k) = go (ltb last-day today) refl
@@ -184,6 +192,7 @@ keeping-laws =
       eighteen-on = λ departure. eighteen-on (date-of departure) (real-of departure);
       no-departure = until-out;
       up-to = by-days;
+      past-last-year = past-last-year;
       no-such-day = no-such-day;
       never-again = never-again;
       to-come = to-come;

@@ -4,7 +4,7 @@ use mathlib.Core.Path.{_≡_}
 use mathlib.Core.Logic.{_⊎_}
 use mathlib.Core.Bool.{true, false}
 use lib.Dec.{leb}
-use Rattle.scope.specs.Limits.{first-year, last-day, kept-months}
+use Rattle.scope.specs.Limits.{first-year, last-year, last-day, kept-months}
 use Rattle.scope.specs.Refusals.{day-range}
 use Rattle.calendar.specs.Calendar.{Date, month-length, on-calendar, date-of, day-of}
 use Rattle.calendar.specs.Calls.{Dated}
@@ -21,9 +21,13 @@ pub record KeepingLaws : Type 0 where
   pub a-date : (departure : ℕ) → (on-calendar (last-date (date-of departure)) ≡ true) × (first-year ≤ last-date (date-of departure) .year)
   pub eighteen-on : (departure : ℕ) → EighteenOn (date-of departure) (last-date (date-of departure))
   pub no-departure : (departure : ℕ) → last-day < departure → kept-until departure ≡ Dated.refused day-range
-  -- the page is kept on the days up to that date's and on no other, whatever the date's year; 12 for either day
+  -- the page is kept on the days up to that date's and on no other, whatever the date's year
   pub up-to : (today departure : ℕ) → today ≤ last-day → departure ≤ last-day
       → keeping today departure ≡ Verdict.decided (leb today (day-of (last-date (date-of departure))))
+  -- where that date lies past the last year, the page is kept on every day
+  pub past-last-year : (today departure : ℕ) → today ≤ last-day → departure ≤ last-day → last-year < last-date (date-of departure) .year
+      → keeping today departure ≡ Verdict.decided true
+  -- 12 for either day
   pub no-such-day : (today departure : ℕ) → (last-day < today) ⊎ (last-day < departure) → keeping today departure ≡ Verdict.refused day-range
   -- once past keeping, a page is past keeping on every later day
   pub never-again : (today later departure : ℕ) → keeping today departure ≡ Verdict.decided false → today ≤ later → later ≤ last-day
