@@ -87,7 +87,7 @@ static void prepare(void)
     memset(out, 1, sizeof out);
     if (tulvekas_begin(key, 32, iv, 16, session, sizeof session) != 0 || tulvekas_text(session, sizeof session, text, MIB, cipher, MIB) != 0 ||
         tulvekas_suspend(session, sizeof session, block, 512) != 0 || tulvekas_state_of(block, 512, state, sizeof state) != 0 ||
-        tulvekas_finish(session, sizeof session, cipher_tag, 16) != 0)
+        tulvekas_finish(session, sizeof session, cipher_tag, 16, found, 16) != 0)
         exit(1);
 }
 

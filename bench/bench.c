@@ -219,7 +219,7 @@ static void run_forward(void)
 static void fill_file(void)
 {
     for (uint32_t i = 0; i < PAGES; i++) {
-        uint8_t session[TULVEKAS_SESSION_BYTES], *page = file + PAGE * i;
+        uint8_t session[TULVEKAS_SESSION_BYTES], given_iv[TULVEKAS_IV_BYTES], *page = file + PAGE * i;
         uint32_t number = i % 4, day = DAY + i / 4 % 30;
         uint16_t length = PAGE_TEXT;
         memcpy(page, iv, TULVEKAS_STAY_BYTES);
@@ -230,7 +230,7 @@ static void fill_file(void)
         if (tulvekas_begin(key, sizeof key, page, sizeof iv, session, sizeof session) != 0 ||
             tulvekas_data(session, sizeof session, page, HEADER) != 0 ||
             tulvekas_text(session, sizeof session, text, PAGE_TEXT, page + HEADER, PAGE_TEXT) != 0 ||
-            tulvekas_finish(session, sizeof session, page + HEADER + PAGE_TEXT, TULVEKAS_TAG_BYTES) != 0)
+            tulvekas_finish(session, sizeof session, page + HEADER + PAGE_TEXT, TULVEKAS_TAG_BYTES, given_iv, sizeof given_iv) != 0)
             fail("no page of a file", "tulvekas");
     }
 }
@@ -265,7 +265,7 @@ static void compare(const struct row *r)
 /* A page with data sealed, opened, and sealed again by pieces; and the calls that no row makes. */
 static int sealed_and_opened(void)
 {
-    uint8_t session[TULVEKAS_SESSION_BYTES], block[TULVEKAS_SUSPENDED_BYTES], state[TULVEKAS_STATE_BYTES], again[16], kept;
+    uint8_t session[TULVEKAS_SESSION_BYTES], block[TULVEKAS_SUSPENDED_BYTES], state[TULVEKAS_STATE_BYTES], again[16], given_iv[16], kept;
     uint8_t date[TULVEKAS_DATE_BYTES], number[TULVEKAS_DAY_BYTES];
     return tulvekas_seal(key, sizeof key, iv, sizeof iv, zeros, 100, text, MOST_TEXT, out, sizeof out, tag, sizeof tag) == 0 &&
            tulvekas_open(key, sizeof key, iv, sizeof iv, zeros, 100, out, MOST_TEXT, tag, sizeof tag, expected, sizeof expected) == 0 &&
@@ -273,8 +273,8 @@ static int sealed_and_opened(void)
            tulvekas_data(session, sizeof session, zeros, 100) == 0 &&
            tulvekas_text(session, sizeof session, text, MOST_TEXT, expected, sizeof expected) == 0 &&
            tulvekas_suspend(session, sizeof session, block, sizeof block) == 0 &&
-           tulvekas_finish(session, sizeof session, again, sizeof again) == 0 && memcmp(expected, out, MOST_TEXT) == 0 &&
-           memcmp(again, tag, sizeof tag) == 0 && tulvekas_state_of(block, sizeof block, state, sizeof state) == 0 &&
+           tulvekas_finish(session, sizeof session, again, sizeof again, given_iv, sizeof given_iv) == 0 && memcmp(expected, out, MOST_TEXT) == 0 &&
+           memcmp(again, tag, sizeof tag) == 0 && memcmp(given_iv, iv, sizeof given_iv) == 0 && tulvekas_state_of(block, sizeof block, state, sizeof state) == 0 &&
            tulvekas_start(key, sizeof key, iv, sizeof iv, 1, state, sizeof state) == 0 &&
            tulvekas_run(state, sizeof state, MOST_TEXT / 16, 0, expected, sizeof expected) == 0 && tulvekas_kept(0, 0, &kept, 1) == 0 &&
            tulvekas_date(0, date, sizeof date) == 0 && tulvekas_day(2000, 1, 1, number, sizeof number) == 0 &&

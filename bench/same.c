@@ -636,6 +636,7 @@ struct session {
     struct element h;
     u32 pad[4], current[4];
     struct state state;
+    u8 iv[16];
 };
 
 static void begin(struct session *s, const u8 *key, const u8 *iv)
@@ -649,6 +650,7 @@ static void begin(struct session *s, const u8 *key, const u8 *iv)
     s->h = from_block(x);
     load(s->pad, two + 16);
     load(s->current, two + 16);
+    memcpy(s->iv, iv, 16);
 }
 
 static void data_with(struct session *s, const u8 *piece, size_t n, const struct table *t)
@@ -763,7 +765,7 @@ static void apply_keystream(struct session *s, const u8 *input, size_t n, u8 *ou
     }
 }
 
-/* ---- the block of 512 bytes, the state's 120 and the session's 224 */
+/* ---- the block of 512 bytes, the state's 120 and the session's 240 */
 
 static int blank(const u8 *p, size_t n)
 {
@@ -825,6 +827,7 @@ static void store_session(u8 *p, const struct session *s)
     to_block(x, s->held.acc);
     store(p + 192, x);
     memcpy(p + 208, s->held.pending, 16);
+    memcpy(p + 224, s->iv, 16);
 }
 
 /* ---- the calls */
@@ -958,6 +961,7 @@ uint64_t same_resume(const uint8_t *key, const uint8_t *block, uint8_t *session,
     begin(&first, key, found);
     s.h = first.h;
     memcpy(s.pad, first.pad, sizeof s.pad);
+    memcpy(s.iv, first.iv, sizeof s.iv);
     z_before(&s.state, o1, o2, s.current);
     store_session(session, &s);
     memcpy(iv, found, 16);

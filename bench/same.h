@@ -6,7 +6,7 @@
 #include <stddef.h>
 #include <stdint.h>
 
-/* The lengths are the caller's to see to: key 32 bytes, iv 16, tag 16, stay 12, state 120, block 512, session 224. */
+/* The lengths are the caller's to see to: key 32 bytes, iv 16, tag 16, stay 12, state 120, block 512, session 240. */
 
 /* The first blocks of the keystream, 16 bytes each; `sealed` is 0 for the plain start. */
 void same_keystream(const uint8_t *key, const uint8_t *iv, uint64_t sealed, uint8_t *out, size_t blocks);

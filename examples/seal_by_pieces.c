@@ -59,7 +59,7 @@ static void with_associated_data(void)
     static const uint8_t paper_tag[TULVEKAS_TAG_BYTES] = {
         0x90, 0x7e, 0xa6, 0xa5, 0xb7, 0x3a, 0x51, 0xde, 0x74, 0x7c, 0x3e, 0x9a, 0xd9, 0xee, 0x02, 0x9b,
     };
-    uint8_t whole[sizeof text], session[TULVEKAS_SESSION_BYTES];
+    uint8_t whole[sizeof text], session[TULVEKAS_SESSION_BYTES], given_iv[TULVEKAS_IV_BYTES];
     uint8_t cipher[sizeof text], tag[TULVEKAS_TAG_BYTES], opened[sizeof text];
 
     accepted("seal", tulvekas_seal(key, sizeof key, iv, sizeof iv, ad, sizeof ad, text, sizeof text, cipher, sizeof cipher, tag, sizeof tag));
@@ -81,9 +81,10 @@ static void with_associated_data(void)
     accepted("data", tulvekas_data(session, sizeof session, ad, 3));
     accepted("data", tulvekas_data(session, sizeof session, ad + 3, sizeof ad - 3));
     accepted("text", tulvekas_text(session, sizeof session, text, sizeof text, cipher, sizeof cipher));
-    accepted("finish", tulvekas_finish(session, sizeof session, tag, sizeof tag));
+    accepted("finish", tulvekas_finish(session, sizeof session, tag, sizeof tag, given_iv, sizeof given_iv));
     agree("the ciphertext by pieces", cipher, whole, sizeof whole);
     agree("the tag by pieces", tag, paper_tag, sizeof tag);
+    agree("the IV that finish gives", given_iv, iv, sizeof iv);
 }
 
 /* A page without associated data, suspended between two pieces of its text. */
@@ -92,7 +93,7 @@ static void suspended_and_resumed(void)
     static const uint8_t text[] = {'0', '1', '2', '3', '4', '5', '6', '7', '8', '9'};
     enum { LENGTH = sizeof text, FIRST = 4 };
     uint8_t session[TULVEKAS_SESSION_BYTES], again[TULVEKAS_SESSION_BYTES];
-    uint8_t block[TULVEKAS_SUSPENDED_BYTES], found[TULVEKAS_IV_BYTES];
+    uint8_t block[TULVEKAS_SUSPENDED_BYTES], found[TULVEKAS_IV_BYTES], given_iv[TULVEKAS_IV_BYTES];
     uint8_t cipher[LENGTH], tag[TULVEKAS_TAG_BYTES], opened[LENGTH];
 
     accepted("begin", tulvekas_begin(key, sizeof key, iv, sizeof iv, session, sizeof session));
@@ -105,7 +106,8 @@ static void suspended_and_resumed(void)
     agree("the IV", found, iv, sizeof iv);
 
     accepted("text", tulvekas_text(again, sizeof again, text + FIRST, LENGTH - FIRST, cipher + FIRST, LENGTH - FIRST));
-    accepted("finish", tulvekas_finish(again, sizeof again, tag, sizeof tag));
+    accepted("finish", tulvekas_finish(again, sizeof again, tag, sizeof tag, given_iv, sizeof given_iv));
+    agree("the IV that finish gives", given_iv, iv, sizeof iv);
 
     accepted("open", tulvekas_open(key, sizeof key, iv, sizeof iv, NULL, 0, cipher, LENGTH, tag, sizeof tag, opened, sizeof opened));
     agree("the text", opened, text, LENGTH);

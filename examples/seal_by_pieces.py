@@ -9,7 +9,7 @@ KEY = bytes(range(0x50, 0x60)) + bytes(range(0x0A, 0x100, 0x10))
 # A vector's IV. In use no two pages under one key have the same.
 IV = bytes.fromhex("0123456789abcdeffedcba9876543210")
 
-SESSION_BYTES, SUSPENDED_BYTES, TAG_BYTES, IV_BYTES = 224, 512, 16, 16
+SESSION_BYTES, SUSPENDED_BYTES, TAG_BYTES, IV_BYTES = 240, 512, 16, 16
 BAD_TAG = 5
 
 
@@ -64,13 +64,13 @@ def with_associated_data(tulvekas):
     not_opened(tulvekas, b"AAD test value?", bytes(cipher), bytes(tag))
 
     # By pieces: the data first, then the text, each in as many pieces as one likes.
-    session, pieces, again = bytearray(SESSION_BYTES), bytearray(len(text)), bytearray(TAG_BYTES)
+    session, pieces, again, given_iv = bytearray(SESSION_BYTES), bytearray(len(text)), bytearray(TAG_BYTES), bytearray(IV_BYTES)
     tulvekas.begin(KEY, IV, session)
     tulvekas.data(session, data[:3])
     tulvekas.data(session, data[3:])
     tulvekas.text(session, text, pieces)
-    tulvekas.finish(session, again)
-    assert pieces == cipher and again == tag
+    tulvekas.finish(session, again, given_iv)
+    assert pieces == cipher and again == tag and given_iv == IV
 
 
 def suspended_and_resumed(tulvekas):
@@ -87,10 +87,11 @@ def suspended_and_resumed(tulvekas):
     tulvekas.resume(KEY, block, again, found)
     assert again == session and found == IV
 
-    second, tag = bytearray(len(text) - 4), bytearray(TAG_BYTES)
+    second, tag, given_iv = bytearray(len(text) - 4), bytearray(TAG_BYTES), bytearray(IV_BYTES)
     tulvekas.text(again, text[4:], second)
-    tulvekas.finish(again, tag)
+    tulvekas.finish(again, tag, given_iv)
     cipher = bytes(first + second)
+    assert given_iv == IV
 
     opened = bytearray(len(text))
     tulvekas.open(KEY, IV, b"", cipher, tag, opened)

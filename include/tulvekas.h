@@ -46,7 +46,7 @@ extern "C" {
 #define TULVEKAS_IV_BYTES 16
 #define TULVEKAS_TAG_BYTES 16
 #define TULVEKAS_BLOCK_BYTES 16      /* of keystream */
-#define TULVEKAS_SESSION_BYTES 224   /* a session between two calls; its contents are secret */
+#define TULVEKAS_SESSION_BYTES 240   /* a session between two calls; its contents are secret */
 #define TULVEKAS_SUSPENDED_BYTES 512 /* a suspended block; secret too */
 #define TULVEKAS_STATE_BYTES 120     /* a state: the cipher's registers and their count of blocks; secret too */
 #define TULVEKAS_PAGE_BYTES 512      /* a page of a page file */
@@ -115,33 +115,34 @@ uint64_t tulvekas_open(const uint8_t *key, size_t key_len, const uint8_t *iv, si
  *     tulvekas_data(session, sizeof session, ad, 3)
  *     tulvekas_data(session, sizeof session, ad + 3, sizeof ad - 3)
  *     tulvekas_text(session, sizeof session, text, sizeof text, cipher, sizeof cipher)
- *     tulvekas_finish(session, sizeof session, tag, sizeof tag)
+ *     tulvekas_finish(session, sizeof session, tag, sizeof tag, given_iv, sizeof given_iv)
  *
  * A session is TULVEKAS_SESSION_BYTES bytes that the caller keeps and hands to each call, in that length exactly. They hold nothing but the
  * session: they may be copied or moved, and the same session always has the same bytes. Whoever reads them can decrypt the page and make its
- * tag, without the key: wipe them when done. Bytes that no call wrote are answered like a session, with no promise but that; a session counts the
- * keystream blocks that it has drawn, and text that would lead that count past 65,538 is refused. In a session that was begun or resumed that never
- * happens. */
+ * tag, without the key: wipe them when done. Bytes that no call wrote are answered like a session, with no promise but that: they may
+ * carry any IV. A session counts the keystream blocks that it has drawn, and text that would lead that count past 65,538 is refused. In a session that was
+ * begun or resumed that never happens. */
 
 /* Begins a session.
- * Writes: 224 bytes to the front of session.
+ * Writes: 240 bytes to the front of session.
  * Refuses: 1, 2, 4. */
 uint64_t tulvekas_begin(const uint8_t *key, size_t key_len, const uint8_t *iv, size_t iv_len, uint8_t *session, size_t session_len);
 
 /* Takes a piece of associated data, of any length.
  * Writes: the session.
- * Refuses: 8 (session not 224 bytes), 7 (behind a text piece, even an empty one, or behind finish), 3. */
+ * Refuses: 8 (session not 240 bytes), 7 (behind a text piece, even an empty one, or behind finish), 3. */
 uint64_t tulvekas_data(uint8_t *session, size_t session_len, const uint8_t *piece, size_t piece_len);
 
 /* Takes a piece of text, of any length.
  * Writes: piece_len bytes of ciphertext to the front of out, and the session.
- * Refuses: 8 (session not 224 bytes), 7, 3, 9 (in no session that was begun or resumed), 4. */
+ * Refuses: 8 (session not 240 bytes), 7, 3, 9 (in no session that was begun or resumed), 4. */
 uint64_t tulvekas_text(uint8_t *session, size_t session_len, const uint8_t *piece, size_t piece_len, uint8_t *out, size_t out_len);
 
-/* Ends a session; every call on it answers 7 from then on.
- * Writes: 16 bytes of tag to the front of tag, and the session.
- * Refuses: 8 (session not 224 bytes), 7, 4. */
-uint64_t tulvekas_finish(uint8_t *session, size_t session_len, uint8_t *tag, size_t tag_len);
+/* Ends a session; every call on it answers 7 from then on. The IV is the one that tulvekas_begin was handed, or that tulvekas_resume found, so that
+ * the page is filed under its own stay number.
+ * Writes: 16 bytes of tag to the front of tag, 16 bytes of IV to the front of iv, and the session.
+ * Refuses: 8 (session not 240 bytes), 7, 4 (either buffer). */
+uint64_t tulvekas_finish(uint8_t *session, size_t session_len, uint8_t *tag, size_t tag_len, uint8_t *iv, size_t iv_len);
 
 /* ---- a session suspended and resumed
  *
@@ -166,13 +167,13 @@ uint64_t tulvekas_finish(uint8_t *session, size_t session_len, uint8_t *tag, siz
 
 /* Suspends a session that is not finished. The session goes on as it was.
  * Writes: 512 bytes to the front of block. Never the session.
- * Refuses: 8 (session not 224 bytes), 7, 4. */
+ * Refuses: 8 (session not 240 bytes), 7, 4. */
 uint64_t tulvekas_suspend(const uint8_t *session, size_t session_len, uint8_t *block, size_t block_len);
 
 /* Resumes a session: from the block that tulvekas_suspend wrote and the key that the session began with, the very bytes of that session, and its
  * IV, found by walking the cipher back. In a block that somebody changed, only what breaks a rule or leads to no IV is found out: the hash so
  * far and the bytes not yet hashed are taken as they stand.
- * Writes: 224 bytes to the front of session, 16 to the front of iv.
+ * Writes: 240 bytes to the front of session, 16 to the front of iv.
  * Refuses: 1, 8 (block not 512 bytes, or another of its rules broken), 6, 4 (either buffer). */
 uint64_t tulvekas_resume(const uint8_t *key, size_t key_len, const uint8_t *block, size_t block_len, uint8_t *session, size_t session_len,
                          uint8_t *iv, size_t iv_len);

@@ -11,13 +11,12 @@ use Rattle.words.specs.Bytes.{Row}
 use Rattle.cipher.specs.Registers.{IsRegisters}
 use Rattle.cipher.specs.Run.{forward}
 use Rattle.cipher.specs.State.{State, run-number}
-use Rattle.cipher.proofs.Moves.{moves-good}
 use Rattle.cipher.proofs.Counting.{run-forward}
-use Rattle.start.specs.Start.{Mode, start, start-number}
+use Rattle.start.specs.Start.{Mode, start-number}
 use Rattle.start.specs.Leads.{LeadsTo, LeadsToState, Traced.origin}
 use Rattle.start.specs.Trace.{trace}
 use Rattle.start.proofs.Answers.{both-right, lengths-right}
-use Rattle.start.proofs.Undo.{start-good}
+use Rattle.start.proofs.Undo.{drawn-good}
 use Rattle.start.proofs.Tracing.{leads-one, traces}
 use Rattle.suspend.proofs.Resuming.{revives}
 use Rattle.session.specs.Calls.{begin-call}
@@ -57,7 +56,7 @@ seals-and-opens =
 pub start-keyed : (key iv : Bytes) → start-number (key .list) (iv .list) ≡ 0 → Keyed key iv
 start-keyed key iv e = let n = lengths-right (key .list) (iv .list) e in record { key-long = n .0; iv-long = n .1 }
 
-begin-keyed : (key iv : Bytes) → begin-call (key .list) (iv .list) .number ≡ 0 → Keyed key iv
+pub begin-keyed : (key iv : Bytes) → begin-call (key .list) (iv .list) .number ≡ 0 → Keyed key iv
 unfolding begin-call
 begin-keyed key iv e = start-keyed key iv e
 
@@ -103,8 +102,7 @@ one a b p q k n e =
 end-good : (a : History) → Accepted a → IsRegisters (end a)
 end-good a e =
     let l = leads a e in
-    subst IsRegisters (l .arrives)
-    (moves-good forward (drawn a) (start (key-of a) (iv-of a) (mode-of a)) (start-good (key-of a) (key-row a e) (iv-of a) (mode-of a) (l .iv-block)))
+    subst IsRegisters (l .arrives) (drawn-good (key-of a) (key-row a e) (iv-of a) (mode-of a) (l .iv-block) (drawn a))
 
 names : (a : History) → Accepted a → trace (state-after a) (key-of a) ≡ origin (iv-of a) (mode-of a)
 names a e =

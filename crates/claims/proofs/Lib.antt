@@ -7,3 +7,4 @@ pub mod Opening
 pub mod Runs
 pub mod Counting
 pub mod Demands
+pub mod Knowing

@@ -11,7 +11,7 @@ use lib.ListN.{getD, length, drop, length-append}
 use Rattle.scope.specs.Limits.{most-data, most-text}
 use Rattle.words.specs.Bytes.{Row, IsBlock}
 use Rattle.scope.specs.Refusals.{granted}
-use Rattle.session.specs.Calls.{Given, text-number, text-call, finish-call}
+use Rattle.session.specs.Calls.{Given, Finished, text-number, text-call, finish-call}
 use Rattle.page.specs.Page.{encrypted, cipher-of, page-tag}
 use Rattle.page.specs.Reached.{session-of}
 use Rattle.page.proofs.Reached.{session-is}
@@ -33,8 +33,9 @@ any-list key iv l cs =
     record {
       begun = ap (λ (b : Given). b .number) (begin-call-at k v (l .key-long) (l .iv-long));
       cipher = ap (λ (u : Trail). u .cipher) t ∙ sym (ap (λ (u : Trail). cipher-of k v (u .text)) t);
-      finished = ap (λ (b : Given). b .number) g;
-      tag = ap (λ (b : Given). b .out) g ∙ sym (ap (λ (u : Trail). page-tag k v (u .ad) (u .text)) t);
+      finished = ap (λ (b : Finished). b .number) g;
+      iv-given = ap (λ (b : Finished). b .iv) g;
+      tag = ap (λ (b : Finished). b .tag) g ∙ sym (ap (λ (u : Trail). page-tag k v (u .ad) (u .text)) t);
     }
 
 -- ---- every piece of a page is accepted

@@ -12,18 +12,17 @@ use lib.Seq.{take-at}
 use Rattle.scope.specs.Limits.{most-data, most-text}
 use Rattle.words.specs.Bytes.{Row, IsBlock}
 use Rattle.session.specs.Session.{Session}
-use Rattle.session.specs.Calls.{data-number, data-call, text-number, text-call}
-use Rattle.suspend.specs.Calls.{suspend-call, Resumed}
+use Rattle.session.specs.Calls.{Given, data-number, data-call, text-number, text-call}
 use Rattle.suspend.proofs.RoundTrip.{suspend-session}
 use Rattle.page.specs.Page.{encrypted, cipher-of}
 use Rattle.page.proofs.Ciphertext.{encrypted-append, encrypted-length}
 use Rattle.page.proofs.Stages.{Stage, Stage.taking-data, Stage.taking-text, ad-of, text-of, session-at}
 use Rattle.page.proofs.Reached.{text-begun-of}
 use Rattle.page.proofs.WholeCalls.{begin-call-at, data-call-at, data-accepted, text-call-at, text-accepted}
-use Rattle.claims.specs.Lists.{Bytes, Call, Call.give-data, Call.give-text, Call.suspend-alone, Call.suspend-and-resume, Trail, call, calls, at-begin, after}
+use Rattle.claims.specs.Lists.{Bytes, Call, Call.give-data, Call.give-text, Call.suspend-alone, Call.suspend-and-resume, Trail, left-by, call, calls, at-begin, after}
 use Rattle.claims.specs.Claims.{Keyed}
 use Rattle.claims.proofs.Within.{row-of, Within, none-within, data-within, text-within}
-use Rattle.claims.proofs.Suspending.{resume-at}
+use Rattle.claims.proofs.Suspending.{left-same, resume-at}
 
 or-true : (b : Bool) → (b || true) ≡ true
 or-true true = refl
@@ -45,10 +44,20 @@ module _ (key iv : List ℕ) where
 
   -- ---- an accepted piece
 
+  data-left : (d : List ℕ) (p : Bytes) → length d + length (p .list) ≤ most-data
+      → left-by key (session-at key iv (taking-data d)) (give-data p) ≡ session-at key iv (taking-data (d ++ p .list))
+  unfolding left-by
+  data-left d p fits = ap (λ (g : Given). g .session) (data-call-at key iv d (p .list) fits)
+
+  text-left : (g : Stage) (p out : Bytes) → length (text-of g) + length (p .list) ≤ most-text → length (p .list) ≤ length (out .list)
+      → left-by key (session-at key iv g) (give-text p out) ≡ session-at key iv (taking-text (ad-of g) (text-of g ++ p .list))
+  unfolding left-by
+  text-left g p out fits room = ap (λ (g : Given). g .session) (text-call-at key iv g (p .list) (out .list) fits room)
+
   pub data-next : (d : List ℕ) (p : Bytes) → length d + length (p .list) ≤ most-data
       → call key (trail-at (taking-data d)) (give-data p) ≡ trail-at (taking-data (d ++ p .list))
   unfolding call
-  data-next d p fits = rw (data-call-at key iv d (p .list) fits)
+  data-next d p fits = rw (data-left d p fits, data-call-at key iv d (p .list) fits)
 
   pub text-next : (g : Stage) (p out : Bytes) → length (text-of g) + length (p .list) ≤ most-text → length (p .list) ≤ length (out .list)
       → call key (trail-at g) (give-text p out) ≡ trail-at (taking-text (ad-of g) (text-of g ++ p .list))
@@ -60,7 +69,7 @@ module _ (key iv : List ℕ) where
       let a : cipher-of key iv (text-of g) ++ c ≡ cipher-of key iv (text-of g ++ p .list) =
       ap (λ (n : ℕ). cipher-of key iv (text-of g) ++ encrypted key iv n (p .list)) (sym (zero-add (length (text-of g))))
       ∙ sym (encrypted-append key iv 0 (text-of g) (p .list)) in
-      rw (text-call-at key iv g (p .list) (out .list) fits room)
+      rw (text-left g p out fits room, text-call-at key iv g (p .list) (out .list) fits room)
       (λ i. record {
         session = session-at key iv (taking-text (ad-of g) (text-of g ++ p .list));
         ad = ad-of g;
@@ -72,11 +81,11 @@ module _ (key iv : List ℕ) where
   -- ---- a refused one
 
   data-refused : (t : Trail) (p : Bytes) → eqb (data-number (t .session) (p .list)) 0 ≡ false → call key t (give-data p) ≡ t
-  unfolding call data-call
+  unfolding call left-by data-call
   data-refused t p e = rw (e, append-nil (t .ad))
 
   text-refused : (t : Trail) (p out : Bytes) → eqb (text-number (t .session) (p .list) (out .list)) 0 ≡ false → call key t (give-text p out) ≡ t
-  unfolding call text-call
+  unfolding call left-by text-call
   text-refused t p out e = rw (e, append-nil (t .text), append-nil (t .cipher), or-false (t .text-begun))
 
   -- ---- any list
@@ -129,20 +138,15 @@ abbrev with-session : Trail → Session → Trail
 with-session t s = record { session = s; ad = t .ad; text = t .text; cipher = t .cipher; text-begun = t .text-begun }
 
 pub suspended-same : (key : List ℕ) (t : Trail) (out : Bytes) → call key t (suspend-alone out) ≡ t
-unfolding call
+unfolding call left-by
 suspended-same key t out = ap (with-session t) (suspend-session (t .session) (out .list))
 
 module _ (key iv : List ℕ) (r : Row 32 256 key) (v : IsBlock iv) where
   pub resumed-same : (g : Stage) (out : Bytes) → Within g → call key (trail-at key iv g) (suspend-and-resume out) ≡ trail-at key iv g
   unfolding call
-  resumed-same g out w = go (eqb (suspend-call (session-at key iv g) (out .list) .number) 0) refl
-    where
-      go : (b : Bool) → eqb (suspend-call (session-at key iv g) (out .list) .number) 0 ≡ b
-          → call key (trail-at key iv g) (suspend-and-resume out) ≡ trail-at key iv g
-      go true e = rw e (ap (λ (x : Resumed). with-session (trail-at key iv g) (x .session)) (resume-at key iv r v g w (out .list) (eqb-true _ 0 e)))
-      go false e = rw e (ap (with-session (trail-at key iv g)) (suspend-session (session-at key iv g) (out .list)))
+  resumed-same g out w = ap (with-session (trail-at key iv g)) (left-same key iv (session-at key iv g) out (resume-at key iv r v g w (out .list)))
 
-  pub call-reached : (t : Trail) (c : Call) → Reached key iv t → Reached key iv (call key t c)
+  call-reached : (t : Trail) (c : Call) → Reached key iv t → Reached key iv (call key t c)
   call-reached t (give-data p) k = data-reached key iv t k p
   call-reached t (give-text p out) k = text-reached key iv t k p out
   call-reached t (suspend-alone out) k = still key iv t k (suspend-alone out) (suspended-same key t out)

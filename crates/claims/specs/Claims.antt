@@ -1,7 +1,7 @@
 -- Demands 2 and 3 (the user's words stand in quotes), as statements about every list of calls, every page and every state. They speak of the
 -- functions that the contracts of start, run, trace, begin, data, text, finish, suspend, resume, seal and open name, and of the page as the paper
--- defines it. proofs/Demands.antt proves them, proofs/Counting.antt
--- what is said of a session's count.
+-- defines it. Behind them stands what document 02's S-5 asks of lists. proofs/Demands.antt proves the demands, proofs/Counting.antt what is said of a session's
+-- count, proofs/Knowing.antt S-5.
 use Prim.Native.Nat.{ℕ, _+_, _*_, _≤_}
 use mathlib.Core.Path.{_≡_}
 use mathlib.Core.Bool.{not}
@@ -9,14 +9,14 @@ use mathlib.Core.List.{List, _++_}
 use lib.Dec.{ltb}
 use lib.ListN.{getD, length, take, drop}
 use Rattle.scope.specs.Limits.{most-data, most-text, most-blocks}
-use Rattle.scope.specs.Refusals.{refuse, granted, out-of-phase, too-long, short-output, bad-tag, count-too-high}
-use Rattle.words.specs.Bytes.{part}
+use Rattle.scope.specs.Refusals.{pick, refuse, granted, out-of-phase, too-long, short-output, bad-tag, count-too-high}
+use Rattle.words.specs.Bytes.{zeros, part}
 use Rattle.cipher.specs.Registers.{IsRegisters}
 use Rattle.cipher.specs.Run.{forward}
 use Rattle.cipher.specs.State.{State, run-number}
 use Rattle.cipher.specs.Laws.{steps, NoneRefused}
-use Rattle.start.specs.Start.{Mode}
-use Rattle.start.specs.Leads.{LeadsTo, Traced.origin, Traces}
+use Rattle.start.specs.Start.{Mode, Mode.sealed}
+use Rattle.start.specs.Leads.{LeadsTo, LeadsToState, Traced.origin, Traces}
 use Rattle.start.specs.Trace.{trace}
 use Rattle.session.specs.Session.{Session, drawn-at, drawn-by}
 use Rattle.session.specs.Calls.{begin-call, data-call, text-call, finish-call}
@@ -26,7 +26,7 @@ use Rattle.suspend.specs.Walk.{resume-call}
 use Rattle.page.specs.Page.{encrypted, cipher-of, tag-for, page-tag}
 use Rattle.page.specs.Calls.{seal-number, seal-out, seal-tag, open-number, open-out}
 use Rattle.page.specs.Reached.{session-of}
-use Rattle.claims.specs.Lists.{Bytes, Call, after, answers-of, Joins, Run, History, History.in-session, History.in-runs, key-of, iv-of, mode-of, Accepted, end, drawn, state-after}
+use Rattle.claims.specs.Lists.{Bytes, Call, after, answers-of, Joins, Run, History, History.in-session, History.in-runs, key-of, iv-of, mode-of, Accepted, end, drawn, state-after, Source, source-key, source-number, source-iv, SessionCall, come-to, ends}
 
 -- a key of 32 bytes and an IV of 16
 pub record Keyed (key iv : Bytes) : Type 0 where
@@ -57,18 +57,19 @@ pub record AllAccepted (key iv : Bytes) (cs : List Call) (ad text : List ℕ) : 
   pub data-is : after key iv cs .ad ≡ ad
   pub text-is : after key iv cs .text ≡ text
 
--- what a list of calls has written, and what finish then gives, are the page's ciphertext and tag
+-- what a list of calls has written, and what finish then gives, are the page's ciphertext and tag, and the IV that begin was handed
 pub record SealedByPieces (key iv : Bytes) (cs : List Call) (ad text : List ℕ) : Type 0 where
   pub begun : begin-call (key .list) (iv .list) .number ≡ 0
   pub cipher : after key iv cs .cipher ≡ cipher-of (key .list) (iv .list) text
   pub finished : finish-call (after key iv cs .session) .number ≡ 0
-  pub tag : finish-call (after key iv cs .session) .out ≡ page-tag (key .list) (iv .list) ad text
+  pub tag : finish-call (after key iv cs .session) .tag ≡ page-tag (key .list) (iv .list) ad text
+  pub iv-given : finish-call (after key iv cs .session) .iv ≡ iv .list
 
 -- "Where nothing is turned away, sealing gives precisely the ciphertext and tag that the SNOW-V paper defines, .. for every list of pieces that
 -- join to it, parked and taken up between them or not."
 pub record SealsByPieces : Type 0 where
   -- For every page within the limits and every list of pieces that join to it, with suspends and resumes anywhere: every piece is accepted, the
-  -- ciphertext pieces join to the page's ciphertext, and finish is accepted and gives its tag.
+  -- ciphertext pieces join to the page's ciphertext, and finish is accepted and gives its tag and IV.
   pub page : (key iv : Bytes) → Keyed key iv → (ad text : List ℕ) → length ad ≤ most-data → length text ≤ most-text → (cs : List Call)
       → Joins cs ad text → AllAccepted key iv cs ad text × SealedByPieces key iv cs ad text
   -- For every list of calls at all, refused ones included: the same of the pieces that were accepted.
@@ -216,3 +217,28 @@ pub record OneStayPerState : Type 0 where
   -- Every resume that stands in a list is accepted, and gives the stay number that the list began with and the very session that was suspended.
   pub resumed : (key iv : Bytes) (cs : List Call) → Accepted (in-session key iv cs) → (out : Bytes) → suspended-number key iv cs out ≡ 0
       → Resumes key iv cs out
+
+-- ---- document 02, S-5: "a session that knows its stay"
+
+-- "From an accepted begin or take up on, by the session's calls alone, it is always the one that walking its state back under its key gives." One claim about
+-- every list of a session's calls, finish and refused ones included, from an accepted begin or from an accepted resume of any block.
+pub record KnowsItsStay : Type 0 where
+  -- After every such list, the stay number that the session carries leads, in sealed mode and under the key of that begin or resume, to the session's registers
+  -- at its count; and trace from there gives it, and sealed mode.
+  pub leads : (o : Source) → source-number o ≡ 0 → (cs : List SessionCall) → LeadsToState (source-key o) (come-to o cs .iv) sealed (come-to o cs .state)
+  pub known : (o : Source) → source-number o ≡ 0 → (cs : List SessionCall) → trace (come-to o cs .state) (source-key o) ≡ origin (come-to o cs .iv) sealed
+  -- It is the one that was handed to begin, or that resume gave,
+  pub carried : (o : Source) → source-number o ≡ 0 → (cs : List SessionCall) → come-to o cs .iv ≡ source-iv o
+  -- and the one that finish gives. Finish is answered 7, and gives zeros, exactly where one stands in the list already.
+  pub finish-answers : (o : Source) → source-number o ≡ 0 → (cs : List SessionCall)
+      → finish-call (come-to o cs) .number ≡ refuse (ends cs) out-of-phase 0
+  pub finish-gives : (o : Source) → source-number o ≡ 0 → (cs : List SessionCall) → finish-call (come-to o cs) .iv ≡ pick (ends cs) zeros (source-iv o)
+  -- These registers are the cipher state of the session, those that every accepted suspend writes; and its count is that of the blocks which a text of the length
+  -- that it holds draws.
+  pub written : (o : Source) → source-number o ≡ 0 → (cs : List SessionCall) (out : Bytes) → suspend-call (come-to o cs) (out .list) .number ≡ 0
+      → registers-at (part 16 112 (suspend-call (come-to o cs) (out .list) .out)) ≡ come-to o cs .state .registers
+  pub counted : (o : Source) → source-number o ≡ 0 → (cs : List SessionCall) → Fits (come-to o cs)
+  -- Resume right after an accepted suspend gives that stay number, and the very session.
+  pub resumed : (o : Source) → source-number o ≡ 0 → (cs : List SessionCall) (out : Bytes) → suspend-call (come-to o cs) (out .list) .number ≡ 0
+      → resume-call (source-key o) (take 512 (suspend-call (come-to o cs) (out .list) .out))
+      ≡ record { number = 0; iv = source-iv o; session = come-to o cs }

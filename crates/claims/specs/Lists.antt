@@ -1,10 +1,11 @@
 -- The lists of demands 2 and 3 (document 01, "Sessions and parking"). A list of the first kind is calls on the session that an accepted begin
 -- gives, whose mode is sealed; one of the second kind is runs forward of the state that an accepted start gives, in either mode. Each call gets
 -- the session or state that the one before it returned or left, and all else that it is handed is arbitrary; a refused call stands in a list like
--- any other and draws nothing. Every call is the definition that its contract names. Keys, IVs, pieces and outputs are lists of bytes.
+-- any other and draws nothing. Every call is the definition that its contract names. Keys, IVs, pieces and outputs are lists of bytes. Behind them stand the
+-- lists of document 02's S-5.
 use Prim.Native.Nat.{ℕ, _+_, _<_, _≤_}
 use mathlib.Core.Path.{_≡_}
-use mathlib.Core.Bool.{Bool, false, _||_}
+use mathlib.Core.Bool.{Bool, true, false, _||_}
 use mathlib.Core.List.{List, [], _∷_, _++_}
 use lib.Dec.{eqb}
 use lib.ListN.{getD, length, take, replicate}
@@ -15,7 +16,7 @@ use Rattle.cipher.specs.Run.{forward}
 use Rattle.cipher.specs.State.{State, run-number, run-state}
 use Rattle.start.specs.Start.{Mode, Mode.sealed, started, start-number, blank}
 use Rattle.session.specs.Session.{Session, drawn-at}
-use Rattle.session.specs.Calls.{begin-call, data-call, text-call}
+use Rattle.session.specs.Calls.{begin-call, data-call, text-call, finish-call}
 use Rattle.layout.specs.Block.{registers-at}
 use Rattle.suspend.specs.Calls.{suspend-call}
 use Rattle.suspend.specs.Walk.{resume-call}
@@ -44,33 +45,39 @@ pub record Trail : Type 0 where
   pub cipher : List ℕ
   pub text-begun : Bool
 
--- One call more, under the begin's key. A suspend that is refused is followed by no resume; behind an accepted one the session is what resume
--- gives, whatever that is.
+-- The session that a call leaves, under the key of its begin or resume. A suspend that is refused is followed by no resume; behind an accepted one the session is
+-- what resume gives, whatever that is.
+unfoldable pub left-by : (key : List ℕ) → Session → Call → Session
+left-by key s (give-data p) = data-call s (p .list) .session
+left-by key s (give-text p out) = text-call s (p .list) (out .list) .session
+left-by key s (suspend-alone out) = suspend-call s (out .list) .session
+left-by key s (suspend-and-resume out) =
+    let g = suspend-call s (out .list) in granted (g .number) (resume-call key (take 512 (g .out)) .session) (g .session)
+
+-- one call more
 unfoldable pub call : (key : List ℕ) → Trail → Call → Trail
 call key t (give-data p) =
     let g = data-call (t .session) (p .list) in
-    record { session = g .session; ad = t .ad ++ granted (g .number) (p .list) []; text = t .text; cipher = t .cipher; text-begun = t .text-begun }
+    record {
+      session = left-by key (t .session) (give-data p);
+      ad = t .ad ++ granted (g .number) (p .list) [];
+      text = t .text;
+      cipher = t .cipher;
+      text-begun = t .text-begun;
+    }
 call key t (give-text p out) =
     let g = text-call (t .session) (p .list) (out .list) in
     record {
-      session = g .session;
+      session = left-by key (t .session) (give-text p out);
       ad = t .ad;
       text = t .text ++ granted (g .number) (p .list) [];
       cipher = t .cipher ++ granted (g .number) (take (length (p .list)) (g .out)) [];
       text-begun = t .text-begun || eqb (g .number) 0;
     }
 call key t (suspend-alone out) =
-    let g = suspend-call (t .session) (out .list) in
-    record { session = g .session; ad = t .ad; text = t .text; cipher = t .cipher; text-begun = t .text-begun }
+    record { session = left-by key (t .session) (suspend-alone out); ad = t .ad; text = t .text; cipher = t .cipher; text-begun = t .text-begun }
 call key t (suspend-and-resume out) =
-    let g = suspend-call (t .session) (out .list) in
-    record {
-      session = granted (g .number) (resume-call key (take 512 (g .out)) .session) (g .session);
-      ad = t .ad;
-      text = t .text;
-      cipher = t .cipher;
-      text-begun = t .text-begun;
-    }
+    record { session = left-by key (t .session) (suspend-and-resume out); ad = t .ad; text = t .text; cipher = t .cipher; text-begun = t .text-begun }
 
 unfoldable pub calls : (key : List ℕ) → Trail → List Call → Trail
 calls key t [] = t
@@ -203,3 +210,48 @@ drawn (in-runs key iv m rs) = course key iv m rs .sum
 abbrev pub state-after : History → State
 state-after (in-session key iv cs) = after key iv cs .session .state
 state-after (in-runs key iv m rs) = course key iv m rs .state
+
+-- ---- a kind of its own (document 02, S-5): a session from an accepted begin or take up on, its finish with it
+
+-- what gave the session: begin, or resume of any block at all, one that nobody here wrote included
+pub data Source : Type 0 where
+  by-begin : (key iv : Bytes) → Source
+  by-resume : (key block : Bytes) → Source
+
+abbrev pub source-key : Source → List ℕ
+source-key (by-begin key iv) = key .list
+source-key (by-resume key block) = key .list
+
+-- what it was answered, and the session that it gave
+abbrev pub source-number : Source → ℕ
+source-number (by-begin key iv) = begin-call (key .list) (iv .list) .number
+source-number (by-resume key block) = resume-call (key .list) (block .list) .number
+
+abbrev pub source-session : Source → Session
+source-session (by-begin key iv) = begin-call (key .list) (iv .list) .session
+source-session (by-resume key block) = resume-call (key .list) (block .list) .session
+
+-- the stay number that was handed to begin, or that resume gave
+abbrev pub source-iv : Source → List ℕ
+source-iv (by-begin key iv) = iv .list
+source-iv (by-resume key block) = resume-call (key .list) (block .list) .iv
+
+-- a call of the first kind, or finish, which may stand anywhere; behind the first one every call is refused
+pub data SessionCall : Type 0 where
+  as-before : Call → SessionCall
+  finish : SessionCall
+
+unfoldable pub goes-on : (key : List ℕ) → Session → List SessionCall → Session
+goes-on key s [] = s
+goes-on key s (as-before c ∷ cs) = goes-on key (left-by key s c) cs
+goes-on key s (finish ∷ cs) = goes-on key (finish-call s .session) cs
+
+-- where the whole list has come to
+abbrev pub come-to : Source → List SessionCall → Session
+come-to o cs = goes-on (source-key o) (source-session o) cs
+
+-- whether a finish stands in it
+unfoldable pub ends : List SessionCall → Bool
+ends [] = false
+ends (as-before c ∷ cs) = ends cs
+ends (finish ∷ cs) = true

@@ -4,71 +4,97 @@ use mathlib.Core.Bool.{Bool, true, false}
 use mathlib.Core.List.{List, [], _∷_, _++_}
 use Prim.Native.Nat.{ℕ, _≤_}
 use native.Mathlib.Omega.{arith}
+use borrow.Author.Tests.{eqb-true}
 use lib.Dec.{eqb}
 use lib.ListN.{length, take, drop}
-use Rattle.words.specs.Bytes.{Row, IsBlock}
+use Rattle.scope.specs.Refusals.{pick, refuse, granted, out-of-phase}
+use Rattle.words.specs.Bytes.{Row, IsBlock, zeros, part}
 use Rattle.cipher.specs.State.{State}
-use Rattle.start.specs.Start.{Mode.plain, Mode.sealed}
+use Rattle.start.specs.Start.{Mode.plain, Mode.sealed, start-number}
 use Rattle.start.specs.Leads.{Traced, Traced.origin, Traced.refused}
 use Rattle.start.specs.Trace.{trace}
 use Rattle.layout.specs.Block.{read}
 use Rattle.layout.specs.Rules.{well-laid}
 use Rattle.start.proofs.Answers.{both-right}
 use Rattle.session.specs.Session.{Session}
-use Rattle.session.specs.Calls.{begin-call}
-use Rattle.suspend.specs.Calls.{state-of, Resumed, revived}
+use Rattle.session.specs.Calls.{begin-call, finish-call}
+use Rattle.suspend.specs.Calls.{state-of, suspend-call, Resumed, revived}
 use Rattle.suspend.specs.Walk.{by-origin, resume-call}
-use Rattle.page.proofs.Stages.{Stage, session-at}
-use Rattle.claims.specs.Lists.{Bytes, Call, Call.give-data, Call.give-text, Call.suspend-alone, Call.suspend-and-resume, Trail, call, calls, after, Run, course, History, History.in-session, History.in-runs}
+use Rattle.suspend.proofs.RoundTrip.{Led, suspend-session}
+use Rattle.claims.specs.Lists.{Bytes, Call, Call.give-data, Call.give-text, Call.suspend-alone, Call.suspend-and-resume, Trail, left-by, call, calls, after, Run, course, History, History.in-session, History.in-runs, Source, Source.by-begin, Source.by-resume, source-key, source-number, source-session, source-iv, goes-on, come-to, ends}
 use Rattle.claims.specs.Claims.{Keyed, suspended-number, suspended-out, Resumes}
 use Rattle.claims.proofs.Demands.{seals-by-pieces, one-stay-per-state}
-use Rattle.claims.proofs.Within.{Within, row-of}
-use Rattle.claims.proofs.Suspending.{resume-at}
-use Rattle.claims.proofs.Reached.{trail-at, Reached, after-reached, call-reached, suspended-same, resumed-same}
-use Rattle.tulvekas.specs.SessionBytes.{session-bytes}
+use Rattle.claims.proofs.Within.{row-of}
+use Rattle.claims.proofs.Suspending.{left-same, stage-led}
+use Rattle.claims.proofs.Reached.{after-reached}
+use Rattle.claims.proofs.Knowing.{Placed, called, ended, gone-on, placed-known, from, knows-its-stay}
+use Rattle.tulvekas.specs.Order.{room}
+use Rattle.tulvekas.specs.SessionBytes.{session-bytes, session-in}
 use Rattle.tulvekas.specs.Cipher.{mode-named}
 use Rattle.tulvekas.proofs.Sizes.{Sized}
-use Rattle.tulvekas.specs.Sessions.{begin-answer, suspend-writes}
-use Rattle.tulvekas.proofs.SessionAnswers.{begin-right}
+use Rattle.tulvekas.specs.Sessions.{begin-answer, finish-writes-iv, suspend-writes}
+use Rattle.tulvekas.proofs.SessionAnswers.{begin-right, resume-right}
 use Rattle.tulvekas.proofs.CipherAnswers.{state-of-right}
-use Rattle.claims_c.specs.Lists.{left, Buffers, CCall, c-call, c-calls, c-after, below, left-state, c-course}
+use Rattle.claims_c.specs.Lists.{left, Buffers, CCall, c-call, c-calls, c-after, below, left-state, c-course, CSessionCall, CSessionCall.as-before, CSessionCall.finish, c-goes-on, c-source, c-come-to, session-below}
 use Rattle.claims_c.specs.ThroughC.{Stands, ResumesThroughC, TracesThroughC, NamedThroughC, ThroughC}
 use Rattle.claims_c.proofs.CipherThroughC.{keystream, tells-state, traces, seals}
 use Rattle.claims_c.proofs.FilesThroughC.{opens-file}
 use Rattle.claims_c.proofs.DatesThroughC.{day-through, kept-through, kept-byte, no-date, no-day, no-kept-date, no-verdict, no-room}
-use Rattle.claims_c.proofs.OnBytes.{stored, bytes, stands, data-left, text-left, answered, resumed-left, resumed-iv, resumed-fresh, sized-at}
+use Rattle.claims_c.proofs.OnBytes.{stored, bytes, stands, data-left, text-left, answered, resumed-left, resumed-iv, resumed-fresh, both-fit, finish-left, finish-short, sized-open, sized}
 use Rattle.claims_c.proofs.StatesOnBytes.{stored-state, course-sized, course-left, stands-course, returned}
 
 -- ---- lists of them
 
 module _ (key iv : List ℕ) (k : Row 32 256 key) (v : IsBlock iv) where
-  -- a call that leaves the trail leaves the bytes
-  stays : (g : Stage) (c : Call) → call key (trail-at key iv g) c ≡ trail-at key iv g
-      → session-bytes (session-at key iv g) ≡ session-bytes (call key (trail-at key iv g) c .session)
-  stays g c e = ap (λ (t : Trail). session-bytes (t .session)) (sym e)
+  -- a call on the bytes of a session that stands where key and IV lead, open or ended
+  step : (b : Bool) (s : Session) → Placed key iv k v b s → (f : Buffers) (c : Call) → c-call key (session-bytes s) f c ≡ session-bytes (left-by key s c)
+  unfolding left-by bytes c-call
+  step b s t f (give-data p) = data-left s (sized key iv k v b s t) key f p
+  step b s t f (give-text p out) = text-left s (sized key iv k v b s t) key f p out
+  step b s t f (suspend-alone out) = ap session-bytes (sym (suspend-session s (out .list)))
+  step b s t f (suspend-and-resume out) =
+      let back = placed-known key iv k v b s t .resumed (out .list) in
+      resumed-fresh s (sized key iv k v b s t) key iv f out back ∙ ap session-bytes (sym (left-same key iv s out back))
 
-  step-at : (g : Stage) → Within g → (f : Buffers) (c : Call)
-      → c-call key (session-bytes (session-at key iv g)) f c ≡ session-bytes (call key (trail-at key iv g) c .session)
-  unfolding call bytes c-call
-  step-at g w f (give-data p) = data-left (session-at key iv g) (sized-at key iv k v g w) key f p
-  step-at g w f (give-text p out) = text-left (session-at key iv g) (sized-at key iv k v g w) key f p out
-  step-at g w f (suspend-alone out) = stays g (suspend-alone out) (suspended-same key (trail-at key iv g) out)
-  step-at g w f (suspend-and-resume out) =
-      resumed-fresh (session-at key iv g) (sized-at key iv k v g w) key iv f out (resume-at key iv k v g w (out .list))
-      ∙ stays g (suspend-and-resume out) (resumed-same key iv k v g out w)
+  -- lists with finish, which goes on from a session ended, or, without room, from the same one
+  finish-goes : (b : Bool) (s : Session) → Placed key iv k v b s → (tag into : List ℕ) (cs : List CSessionCall)
+      → c-goes-on key (session-bytes (finish-call s .session)) cs ≡ session-bytes (goes-on key (finish-call s .session) (session-below cs))
+      → c-goes-on key (session-bytes s) cs ≡ session-bytes (goes-on key s (session-below cs))
+      → c-goes-on key (session-bytes s) (finish tag into ∷ cs) ≡ session-bytes (goes-on key s (session-below (finish tag into ∷ cs)))
+  unfolding c-goes-on goes-on session-below bytes
+  finish-goes b s t tag into cs then same = go (eqb (room 16 tag (room 16 into 0)) 0) refl
+    where
+      go : (u : Bool) → eqb (room 16 tag (room 16 into 0)) 0 ≡ u
+          → c-goes-on key (session-bytes s) (finish tag into ∷ cs) ≡ session-bytes (goes-on key s (session-below (finish tag into ∷ cs)))
+      go true e =
+          let r = both-fit tag into (eqb-true (room 16 tag (room 16 into 0)) 0 e) in
+          rw e (ap (λ (l : List ℕ). c-goes-on key l cs) (finish-left s (sized key iv k v b s t) tag into (r .0) (r .1)) ∙ then)
+      go false e = rw e (ap (λ (l : List ℕ). c-goes-on key l cs) (finish-short s (sized key iv k v b s t) tag into e) ∙ same)
 
-  step : (t : Trail) → Reached key iv t → (f : Buffers) (c : Call) → c-call key (session-bytes (t .session)) f c ≡ session-bytes (call key t c .session)
-  step t r f c =
-      subst (λ (u : Trail). c-call key (session-bytes (u .session)) f c ≡ session-bytes (call key u c .session)) (sym (r .is)) (step-at (r .stage) (r .within) f c)
+  going : (b : Bool) (s : Session) → Placed key iv k v b s → (cs : List CSessionCall) → c-goes-on key (session-bytes s) cs ≡ session-bytes (goes-on key s (session-below cs))
+  unfolding c-goes-on goes-on session-below bytes
+  going b s t [] = refl
+  going b s t (as-before c ∷ cs) =
+      ap (λ (l : List ℕ). c-goes-on key l cs) (step b s t (c .buffers) (c .call)) ∙ going b (left-by key s (c .call)) (called key iv k v b s (c .call) t) cs
+  going b s t (finish tag into ∷ cs) =
+      finish-goes b s t tag into cs (going true (finish-call s .session) (ended key iv k v b s t) cs) (going b s t cs)
 
-  steps : (t : Trail) → Reached key iv t → (cs : List CCall) → c-calls key (session-bytes (t .session)) cs ≡ session-bytes (calls key t (below cs) .session)
+  -- lists of the first kind, which have none
+  call-session : (t : Trail) (c : Call) → call key t c .session ≡ left-by key (t .session) c
+  unfolding call
+  call-session t (give-data p) = refl
+  call-session t (give-text p out) = refl
+  call-session t (suspend-alone out) = refl
+  call-session t (suspend-and-resume out) = refl
+
+  steps : (t : Trail) → Placed key iv k v false (t .session) → (cs : List CCall)
+      → c-calls key (session-bytes (t .session)) cs ≡ session-bytes (calls key t (below cs) .session)
   unfolding c-calls calls below
-  steps t r [] = refl
-  steps t r (c ∷ cs) =
-      ap (λ (b : List ℕ). c-calls key b cs) (step t r (c .buffers) (c .call)) ∙ steps (call key t (c .call)) (call-reached key iv k v t (c .call) r) cs
-
-  reached-sized : (t : Trail) → Reached key iv t → Sized (t .session)
-  reached-sized t r = subst (λ (u : Trail). Sized (u .session)) (sym (r .is)) (sized-at key iv k v (r .stage) (r .within))
+  steps t l [] = refl
+  steps t l (c ∷ cs) =
+      let e = sym (call-session t (c .call)) in
+      ap (λ (b : List ℕ). c-calls key b cs) (step false (t .session) l (c .buffers) (c .call) ∙ ap session-bytes e)
+      ∙ steps (call key t (c .call)) (subst (Placed key iv k v false) e (called key iv k v false (t .session) (c .call) l)) cs
 
 -- a block that is resumed from obeys the layout rules, and so has 512 bytes
 resumed-laid : (key b : List ℕ) → resume-call key b .number ≡ 0 → well-laid b ≡ true
@@ -95,33 +121,104 @@ resumed-state key b n = go (eqb (length key) 32) refl (well-laid b) refl
     go true p false q = absurd (let z = rw q at (rw p at n) in omega arith)
     go false p j q = absurd (let z = rw p at n in omega arith)
 
--- ---- from begin on
+-- the bytes b of a session: what suspend wrote of it gives it back, into any buffers with room
+resumes-bytes : (key iv : List ℕ) (s : Session) → Sized s → (b : List ℕ) → Stands b s → (out : Bytes) → suspend-call s (out .list) .number ≡ 0
+    → resume-call key (take 512 (suspend-call s (out .list) .out)) ≡ record { number = 0; iv = iv; session = s } → (fresh into : List ℕ) → 240 ≤ length fresh
+    → 16 ≤ length into → ResumesThroughC key iv b (out .list) fresh into
+unfolding bytes
+resumes-bytes key iv s g b t out z e fresh into room-240 room-16 =
+    let block : List ℕ = take 512 (suspend-writes b (out .list)) in
+    let back = ap (λ (o : List ℕ). resume-call key (take 512 o)) (t .suspend-output (out .list)) ∙ e in
+    record {
+      suspended = t .suspend-answers (out .list) ∙ z;
+      answered = answered s g key iv block back fresh into room-240 room-16;
+      same-bytes = resumed-left s g key iv block back fresh into room-240 room-16 ∙ ap (λ (l : List ℕ). l ++ drop 240 fresh) (sym (t .bytes));
+      same-iv = resumed-iv s g key iv block back fresh into room-240 room-16;
+    }
 
-module _ (key iv : Bytes) (l : Keyed key iv) (session : List ℕ) (room-224 : length session ≡ 224) where
-  begun : left (begin-answer (key .list) (iv .list) session) (begin-call (key .list) (iv .list) .session) session
-      ≡ session-bytes (begin-call (key .list) (iv .list) .session)
-  begun =
-      let n = begin-right (key .list) (iv .list) session refl (both-right (key .list) (iv .list) (l .key-long) (l .iv-long)) (omega arith) in
-      ap (λ (n : ℕ). left n (begin-call (key .list) (iv .list) .session) session) (sym n)
-      ∙ stored (begin-call (key .list) (iv .list) .session) session room-224
+-- ---- from begin or resume on
+
+begun : (key iv session : List ℕ) → start-number key iv ≡ 0 → length session ≡ 240
+    → left (begin-answer key iv session) (begin-call key iv .session) session ≡ session-bytes (begin-call key iv .session)
+begun key iv session e long =
+    ap (λ (n : ℕ). left n (begin-call key iv .session) session) (sym (begin-right key iv session refl e (omega arith)))
+    ∙ stored (begin-call key iv .session) session long
+
+given : (o : Source) → source-number o ≡ 0 → (f : Buffers) → c-source o f ≡ session-bytes (source-session o)
+unfolding begin-call
+given (by-begin key iv) n f = begun (key .list) (iv .list) (f .session) n (f .session-long)
+given (by-resume key block) n f =
+    ap (λ (n : ℕ). left n (resume-call (key .list) (block .list) .session) (f .session))
+    (sym (resume-right (key .list) (block .list) (f .session) (f .iv) refl n (let l = f .session-long in omega arith) (f .iv-room)))
+    ∙ stored (resume-call (key .list) (block .list) .session) (f .session) (f .session-long)
+
+-- finish has given the number, or one stands in the list already
+told : (b : Bool) (n : ℕ) (x v iv : List ℕ) → n ≡ refuse b out-of-phase 0 → x ≡ pick b zeros v
+    → granted n (x ++ drop 16 iv) iv ≡ pick b iv (v ++ drop 16 iv)
+told true n x v iv e f = rw e
+told false n x v iv e f = rw (e, f)
+
+module _ (o : Source) (n : source-number o ≡ 0) (f : Buffers) (cs : List CSessionCall) where
+  on : Session
+  on = come-to o (session-below cs)
+
+  on-sized : Sized on
+  unfolding on Placed
+  on-sized =
+      let s = from o n in
+      sized (source-key o) (source-iv o) (s .key-row) (s .iv-block) (ends (session-below cs)) on
+      (gone-on (source-key o) (source-iv o) (s .key-row) (s .iv-block) false (source-session o) (session-below cs) (s .led))
+
+  stands-on : Stands (c-come-to o f cs) (come-to o (session-below cs))
+  unfolding bytes on Placed
+  stands-on =
+      let s = from o n in
+      let e = ap (λ (l : List ℕ). c-goes-on (source-key o) l cs) (given o n f)
+      ∙ going (source-key o) (source-iv o) (s .key-row) (s .iv-block) false (source-session o) (s .led) cs in
+      subst (λ (l : List ℕ). Stands l on) (sym e) (stands on on-sized)
+
+  iv-carried : part 224 16 (c-come-to o f cs) ≡ source-iv o
+  unfolding session-in
+  iv-carried = ap (λ (s : Session). s .iv) (stands-on .lists) ∙ knows-its-stay .carried o n (session-below cs)
+
+  iv-given : (tag iv : List ℕ) → 16 ≤ length tag → 16 ≤ length iv
+      → finish-writes-iv (c-come-to o f cs) tag iv ≡ pick (ends (session-below cs)) iv (source-iv o ++ drop 16 iv)
+  iv-given tag iv r q =
+      stands-on .finish-iv tag iv r q
+      ∙ told (ends (session-below cs)) _ _ (source-iv o) iv (knows-its-stay .finish-answers o n (session-below cs)) (knows-its-stay .finish-gives o n (session-below cs))
+
+  resumed-on : (out : Bytes) → suspend-call (come-to o (session-below cs)) (out .list) .number ≡ 0 → (fresh into : List ℕ) → 240 ≤ length fresh → 16 ≤ length into
+      → ResumesThroughC (source-key o) (source-iv o) (c-come-to o f cs) (out .list) fresh into
+  unfolding on
+  resumed-on out z =
+      resumes-bytes (source-key o) (source-iv o) (come-to o (session-below cs)) on-sized (c-come-to o f cs) stands-on out z
+      (knows-its-stay .resumed o n (session-below cs) out z)
+
+module _ (key iv : Bytes) (l : Keyed key iv) (session : List ℕ) (room-240 : length session ≡ 240) where
+  after-led : (cs : List Call) → Led (key .list) (iv .list) (after key iv cs .session)
+  after-led cs =
+      let r = after-reached key iv l cs in
+      subst (λ (u : Trail). Led (key .list) (iv .list) (u .session)) (sym (r .is))
+      (stage-led (key .list) (iv .list) (row-of key (l .key-long)) (row-of iv (l .iv-long)) (r .stage) (r .within))
 
   after-bytes : (cs : List CCall) → c-after key iv session cs ≡ session-bytes (after key iv (below cs) .session)
-  unfolding calls
+  unfolding calls Placed
   after-bytes cs =
-      ap (λ (b : List ℕ). c-calls (key .list) b cs) begun
-      ∙ steps (key .list) (iv .list) (row-of key (l .key-long)) (row-of iv (l .iv-long)) _ (after-reached key iv l []) cs
+      ap (λ (b : List ℕ). c-calls (key .list) b cs)
+      (begun (key .list) (iv .list) session (both-right (key .list) (iv .list) (l .key-long) (l .iv-long)) room-240)
+      ∙ steps (key .list) (iv .list) (row-of key (l .key-long)) (row-of iv (l .iv-long)) _ (after-led []) cs
 
   module _ (cs : List CCall) where
     here : Session
     here = after key iv (below cs) .session
 
-    sized : Sized here
+    here-sized : Sized here
     unfolding here
-    sized = reached-sized (key .list) (iv .list) (row-of key (l .key-long)) (row-of iv (l .iv-long)) (after key iv (below cs)) (after-reached key iv l (below cs))
+    here-sized = sized-open (key .list) (iv .list) (row-of key (l .key-long)) (row-of iv (l .iv-long)) (after key iv (below cs) .session) (after-led (below cs))
 
     stands-after : Stands (c-after key iv session cs) (after key iv (below cs) .session)
     unfolding bytes here
-    stands-after = subst (λ (b : List ℕ). Stands b here) (sym (after-bytes cs)) (stands here sized)
+    stands-after = subst (λ (b : List ℕ). Stands b here) (sym (after-bytes cs)) (stands here here-sized)
 
     module _ (out : Bytes) (room-512 : 512 ≤ length (out .list)) where
       both : (suspended-number key iv (below cs) out ≡ 0) × Resumes key iv (below cs) out
@@ -130,19 +227,10 @@ module _ (key iv : Bytes) (l : Keyed key iv) (session : List ℕ) (room-224 : le
       block-is : take 512 (suspend-writes (c-after key iv session cs) (out .list)) ≡ take 512 (suspended-out key iv (below cs) out)
       block-is = ap (take 512) (stands-after .suspend-output (out .list))
 
-      resumes : (fresh into : List ℕ) → 224 ≤ length fresh → 16 ≤ length into
+      resumes : (fresh into : List ℕ) → 240 ≤ length fresh → 16 ≤ length into
           → ResumesThroughC (key .list) (iv .list) (c-after key iv session cs) (out .list) fresh into
-      unfolding bytes here
-      resumes fresh into room-224 room-16 =
-          let block : List ℕ = take 512 (suspend-writes (c-after key iv session cs) (out .list)) in
-          let back = ap (resume-call (key .list)) block-is ∙ both .1 in
-          record {
-            suspended = stands-after .suspend-answers (out .list) ∙ both .0;
-            answered = answered here sized (key .list) (iv .list) block back fresh into room-224 room-16;
-            same-bytes = resumed-left here sized (key .list) (iv .list) block back fresh into room-224 room-16
-                ∙ ap (λ (b : List ℕ). b ++ drop 224 fresh) (sym (after-bytes cs));
-            same-iv = resumed-iv here sized (key .list) (iv .list) block back fresh into room-224 room-16;
-          }
+      unfolding here
+      resumes = resumes-bytes (key .list) (iv .list) here here-sized (c-after key iv session cs) stands-after out (both .0) (both .1)
 
       -- the block that suspend wrote says the session's own state, which trace below leads back to the begin's IV
       names : (state : List ℕ) → length state ≡ 120
@@ -163,7 +251,7 @@ module _ (key iv : Bytes) (l : Keyed key iv) (session : List ℕ) (room-224 : le
             answered = answered;
             bytes = bytes;
             traced = subst (λ (b : List ℕ). TracesThroughC b (key .list) (origin (iv .list) sealed)) (sym bytes)
-                (tells-state s (sized .state-sized) (key .list) found);
+                (tells-state s (here-sized .state-sized) (key .list) found);
           }
 
 -- ---- from start on
@@ -181,6 +269,10 @@ through-c =
     record {
       stands = λ key iv l session room cs. stands-after key iv l session room cs;
       resumed = λ key iv l session room cs out room-512. resumes key iv l session room cs out room-512;
+      stands-on = stands-on;
+      iv-carried = iv-carried;
+      iv-given = iv-given;
+      resumed-on = resumed-on;
       seals = seals;
       opens-file = opens-file;
       keystream = keystream;

@@ -1,4 +1,4 @@
--- The lists of calls of demands 2 and 3 (crates/claims/specs/Lists.antt) as C makes them, on a session in 224 lent bytes and on a state in 120: what the
+-- The lists of calls of demands 2 and 3 and of S-5 (crates/claims/specs/Lists.antt) as C makes them, on a session in 240 lent bytes and on a state in 120: what the
 -- contracts of the calls for C say, one call after the other.
 use Prim.Native.Nat.{ℕ, _≤_}
 use mathlib.Core.Path.{_≡_}
@@ -8,24 +8,24 @@ use Rattle.scope.specs.Refusals.{granted}
 use Rattle.cipher.specs.State.{State, moved}
 use Rattle.start.specs.Start.{started}
 use Rattle.session.specs.Session.{Session}
-use Rattle.session.specs.Calls.{begin-call, data-call, text-call}
+use Rattle.session.specs.Calls.{begin-call, data-call, text-call, finish-call}
 use Rattle.suspend.specs.Walk.{resume-call}
-use Rattle.claims.specs.Lists.{Bytes, Call, Call.give-data, Call.give-text, Call.suspend-alone, Call.suspend-and-resume, Run}
-use Rattle.tulvekas.specs.Order.{buffer-after}
+use Rattle.claims.specs.Lists.{Bytes, Call, Call.give-data, Call.give-text, Call.suspend-alone, Call.suspend-and-resume, Run, Source, Source.by-begin, Source.by-resume, source-key, SessionCall}
+use Rattle.tulvekas.specs.Order.{room, buffer-after}
 use Rattle.tulvekas.specs.StateBytes.{state-bytes, state-in}
 use Rattle.tulvekas.specs.SessionBytes.{session-bytes, session-in}
 use Rattle.tulvekas.specs.Cipher.{mode-named, back-named, start-answer, run-answer}
-use Rattle.tulvekas.specs.Sessions.{begin-answer, data-answer, text-answer, suspend-answer, suspend-writes, resume-answer}
+use Rattle.tulvekas.specs.Sessions.{begin-answer, data-answer, text-answer, finish-answer, suspend-answer, suspend-writes, resume-answer}
 
 -- what a call that answers n and gives the session g leaves in a lent session, as `Leaves` says
 abbrev pub left : ℕ → Session → (session : List ℕ) → List ℕ
-left n g b = buffer-after n 224 (session-bytes g) b
+left n g b = buffer-after n 240 (session-bytes g) b
 
--- what a resume is lent: 224 bytes for the session and room for the IV, whatever stands in them
+-- what a resume is lent, and at the head of a list a begin: 240 bytes for the session and room for the IV, whatever stands in them
 pub record Buffers : Type 0 where
   pub session : List ℕ
   pub iv : List ℕ
-  pub session-long : length session ≡ 224
+  pub session-long : length session ≡ 240
   pub iv-room : 16 ≤ length iv
 
 -- a call, and what a resume in it is lent
@@ -75,3 +75,31 @@ c-runs s (r ∷ rs) = c-runs (c-run s (r .n) 0 (r .out .list)) rs
 abbrev pub c-course : (key iv : Bytes) (mode : ℕ) → (state : List ℕ) → List Run → List ℕ
 c-course key iv mode s rs =
     c-runs (left-state (start-answer (key .list) (iv .list) s) (started (key .list) (iv .list) (mode-named mode)) s) rs
+
+-- ---- S-5's lists, on a session in 240 lent bytes
+
+-- a call of the first kind, or finish, into any two buffers
+pub data CSessionCall : Type 0 where
+  as-before : CCall → CSessionCall
+  finish : (tag iv : List ℕ) → CSessionCall
+
+unfoldable pub c-goes-on : (key : List ℕ) → (session : List ℕ) → List CSessionCall → List ℕ
+c-goes-on key b [] = b
+c-goes-on key b (as-before c ∷ cs) = c-goes-on key (c-call key b (c .buffers) (c .call)) cs
+c-goes-on key b (finish tag iv ∷ cs) = c-goes-on key (left (finish-answer b tag iv) (finish-call (session-in b) .session) b) cs
+
+-- what begin, or resume of any block, leaves in the session's bytes
+abbrev pub c-source : Source → Buffers → List ℕ
+c-source (by-begin key iv) f = left (begin-answer (key .list) (iv .list) (f .session)) (begin-call (key .list) (iv .list) .session) (f .session)
+c-source (by-resume key block) f =
+    left (resume-answer (key .list) (block .list) (f .session) (f .iv)) (resume-call (key .list) (block .list) .session) (f .session)
+
+-- the whole list, from there on
+abbrev pub c-come-to : Source → Buffers → List CSessionCall → List ℕ
+c-come-to o f cs = c-goes-on (source-key o) (c-source o f) cs
+
+-- the same list below, where no finish is refused for its buffers: one whose buffers lack room is left out
+unfoldable pub session-below : List CSessionCall → List SessionCall
+session-below [] = []
+session-below (as-before c ∷ cs) = SessionCall.as-before (c .call) ∷ session-below cs
+session-below (finish tag iv ∷ cs) = granted (room 16 tag (room 16 iv 0)) (SessionCall.finish ∷ session-below cs) (session-below cs)

@@ -7,7 +7,7 @@ use mathlib.Core.List.{List, _∷_, _++_}
 use lib.ListN.{length, take, drop}
 use Rattle.scope.specs.Limits.{last-day}
 use Rattle.scope.specs.Refusals.{pick, granted, short-output, day-range}
-use Rattle.words.specs.Bytes.{little}
+use Rattle.words.specs.Bytes.{little, part}
 use Rattle.cipher.specs.Run.{forward}
 use Rattle.cipher.specs.State.{State, run-number, run-state, run-part}
 use Rattle.start.specs.Start.{Mode.sealed, started, start-number}
@@ -17,7 +17,7 @@ use Rattle.session.specs.Calls.{data-call, text-call, finish-call}
 use Rattle.layout.specs.Block.{read}
 use Rattle.suspend.specs.Calls.{state-of, suspend-call}
 use Rattle.suspend.specs.Walk.{resume-call}
-use Rattle.claims.specs.Lists.{Bytes, Run, course, after}
+use Rattle.claims.specs.Lists.{Bytes, Run, course, after, Source, source-key, source-number, source-iv, come-to, ends}
 use Rattle.claims.specs.Claims.{Keyed}
 use Rattle.page.specs.Calls.{seal-number, seal-out, seal-tag}
 use Rattle.page_file.specs.Calls as Files
@@ -30,10 +30,10 @@ use Rattle.tulvekas.specs.Pages.{seal-answer, seal-writes, seal-writes-tag}
 use Rattle.tulvekas.specs.Files.{file-open-answer, file-open-writes, file-open-length}
 use Rattle.tulvekas.specs.StateBytes.{state-bytes, state-in}
 use Rattle.tulvekas.specs.SessionBytes.{session-bytes, session-in}
-use Rattle.tulvekas.specs.Sessions.{data-answer, text-answer, text-writes, finish-answer, finish-writes, suspend-answer, suspend-writes, resume-answer, resume-writes}
+use Rattle.tulvekas.specs.Sessions.{data-answer, text-answer, text-writes, finish-answer, finish-writes-tag, finish-writes-iv, suspend-answer, suspend-writes, resume-answer, resume-writes}
 use Rattle.tulvekas.specs.Cipher.{mode-named, fitting, keystream-answer, keystream-writes, back-named, run-answer, run-writes, state-of-answer, mode-byte, trace-of-bytes, trace-answer, trace-iv, trace-sealed}
 use Rattle.tulvekas.specs.Dates.{Reply, Reply.bytes, reply-answer, reply-writes, date-in, date-reply, day-reply, kept-reply}
-use Rattle.claims_c.specs.Lists.{left, CCall, c-after, below, left-state, c-run, c-course}
+use Rattle.claims_c.specs.Lists.{left, Buffers, CCall, c-after, below, left-state, c-run, c-course, CSessionCall, c-come-to, session-below}
 
 -- bytes b on which every call for C answers and writes what the call below does on the session s
 pub record Stands (b : List ℕ) (s : Session) : Type 0 where
@@ -42,10 +42,13 @@ pub record Stands (b : List ℕ) (s : Session) : Type 0 where
   pub data-answers : (p : List ℕ) → data-answer b p ≡ data-call s p .number
   pub text-answers : (p out : List ℕ) → text-answer b p out ≡ text-call s p out .number
   pub text-output : (p out : List ℕ) → text-writes b p out ≡ text-call s p out .out
-  pub finish-answers : (tag : List ℕ) → 16 ≤ length tag → finish-answer b tag ≡ finish-call s .number
-  pub finish-output : (tag : List ℕ) → 16 ≤ length tag → finish-writes b tag ≡ granted (finish-call s .number) (finish-call s .out ++ drop 16 tag) tag
-  pub finish-session : (tag : List ℕ) → 16 ≤ length tag
-      → left (finish-answer b tag) (finish-call (session-in b) .session) b ≡ session-bytes (finish-call s .session)
+  pub finish-answers : (tag iv : List ℕ) → 16 ≤ length tag → 16 ≤ length iv → finish-answer b tag iv ≡ finish-call s .number
+  pub finish-tag : (tag iv : List ℕ) → 16 ≤ length tag → 16 ≤ length iv
+      → finish-writes-tag b tag iv ≡ granted (finish-call s .number) (finish-call s .tag ++ drop 16 tag) tag
+  pub finish-iv : (tag iv : List ℕ) → 16 ≤ length tag → 16 ≤ length iv
+      → finish-writes-iv b tag iv ≡ granted (finish-call s .number) (finish-call s .iv ++ drop 16 iv) iv
+  pub finish-session : (tag iv : List ℕ) → 16 ≤ length tag → 16 ≤ length iv
+      → left (finish-answer b tag iv) (finish-call (session-in b) .session) b ≡ session-bytes (finish-call s .session)
   pub suspend-answers : (out : List ℕ) → suspend-answer b out ≡ suspend-call s out .number
   pub suspend-output : (out : List ℕ) → suspend-writes b out ≡ suspend-call s out .out
 
@@ -56,7 +59,7 @@ pub record ResumesThroughC (key iv b out session into : List ℕ) : Type 0 where
   pub answered : resume-answer key (take 512 (suspend-writes b out)) session into ≡ 0
   pub same-bytes :
       left (resume-answer key (take 512 (suspend-writes b out)) session into) (resume-call key (take 512 (suspend-writes b out)) .session) session
-      ≡ b ++ drop 224 session
+      ≡ b ++ drop 240 session
   pub same-iv : resume-writes key (take 512 (suspend-writes b out)) session into ≡ iv ++ drop 16 into
 
 -- what C is told of an answer to trace, in two buffers with room: the number, and what stands in them
@@ -109,12 +112,23 @@ pub record RefusedThroughC (a : Reply) (n : ℕ) (out : List ℕ) : Type 0 where
 
 pub record ThroughC : Type 0 where
   -- Through C every list of calls leaves the bytes of the session that the same list leaves below, whatever stood in them before.
-  pub stands : (key iv : Bytes) → Keyed key iv → (session : List ℕ) → length session ≡ 224 → (cs : List CCall)
+  pub stands : (key iv : Bytes) → Keyed key iv → (session : List ℕ) → length session ≡ 240 → (cs : List CCall)
       → Stands (c-after key iv session cs) (after key iv (below cs) .session)
   -- After every list a session that is suspended and resumed has the very bytes that it had.
-  pub resumed : (key iv : Bytes) → Keyed key iv → (session : List ℕ) → length session ≡ 224 → (cs : List CCall) (out : Bytes) → 512 ≤ length (out .list)
-      → (fresh into : List ℕ) → 224 ≤ length fresh → 16 ≤ length into
+  pub resumed : (key iv : Bytes) → Keyed key iv → (session : List ℕ) → length session ≡ 240 → (cs : List CCall) (out : Bytes) → 512 ≤ length (out .list)
+      → (fresh into : List ℕ) → 240 ≤ length fresh → 16 ≤ length into
       → ResumesThroughC (key .list) (iv .list) (c-after key iv session cs) (out .list) fresh into
+  -- S-5: through C every list from an accepted begin, or from an accepted resume of any block, with finish into any buffers anywhere in it, leaves the bytes of
+  -- the session that the same list leaves below, whatever stood in them before.
+  pub stands-on : (o : Source) → source-number o ≡ 0 → (f : Buffers) (cs : List CSessionCall) → Stands (c-come-to o f cs) (come-to o (session-below cs))
+  -- Their bytes 224-239 are the stay number that was handed to begin, or that resume gave, and finish writes it, unless one stands in the list already.
+  pub iv-carried : (o : Source) → source-number o ≡ 0 → (f : Buffers) (cs : List CSessionCall) → part 224 16 (c-come-to o f cs) ≡ source-iv o
+  pub iv-given : (o : Source) → source-number o ≡ 0 → (f : Buffers) (cs : List CSessionCall) (tag iv : List ℕ) → 16 ≤ length tag → 16 ≤ length iv
+      → finish-writes-iv (c-come-to o f cs) tag iv ≡ pick (ends (session-below cs)) iv (source-iv o ++ drop 16 iv)
+  -- And where suspend is accepted, the session resumed has the very bytes that it had.
+  pub resumed-on : (o : Source) → source-number o ≡ 0 → (f : Buffers) (cs : List CSessionCall) (out : Bytes)
+      → suspend-call (come-to o (session-below cs)) (out .list) .number ≡ 0 → (fresh into : List ℕ) → 240 ≤ length fresh → 16 ≤ length into
+      → ResumesThroughC (source-key o) (source-iv o) (c-come-to o f cs) (out .list) fresh into
   -- With room for the tag, seal answers and writes what seal below does; open is the very call below.
   pub seals : (key iv ad text out tag : List ℕ) → 16 ≤ length tag
       → (seal-answer key iv ad text out tag ≡ seal-number key iv ad text out)
@@ -141,7 +155,7 @@ pub record ThroughC : Type 0 where
       → (a : Traced) × (Traces (state-in (state .list)) (key .list) a × TracesThroughC (state .list) (key .list) a)
   -- A state names its stay: after every list, `state_of` makes of the 512 bytes that suspend wrote the bytes of the session's own state, its count with it,
   -- and trace from them tells the begin's IV and sealed mode,
-  pub names : (key iv : Bytes) → Keyed key iv → (session : List ℕ) → length session ≡ 224 → (cs : List CCall) (out : Bytes) → 512 ≤ length (out .list)
+  pub names : (key iv : Bytes) → Keyed key iv → (session : List ℕ) → length session ≡ 240 → (cs : List CCall) (out : Bytes) → 512 ≤ length (out .list)
       → (state : List ℕ) → length state ≡ 120
       → NamedThroughC (key .list) (take 512 (suspend-writes (c-after key iv session cs) (out .list))) state (after key iv (below cs) .session .state)
       (origin (iv .list) sealed)

@@ -1,10 +1,14 @@
--- What every byte keeps, a piece keeps: the hash stays a block, and what is held stays 16 bytes.
-use mathlib.Core.Path.{_≡_, refl, _∙_}
+-- What every byte keeps, a piece keeps: the hash stays a block, what is held stays 16 bytes, and behind the bytes held stand zeros.
+use mathlib.Core.Path.{_≡_, refl, ap, _∙_}
 use mathlib.Core.Bool.{Bool, true, false}
 use mathlib.Core.List.{List, [], _∷_}
-use Prim.Native.Nat.{ℕ, suc, _+_, _%_, _<_}
+use Prim.Native.Nat.{ℕ, zero, suc, _+_, _%_, _≤_, _<_}
+use native.Mathlib.Decide.{ℕ-discrete}
+use native.Mathlib.Nat.{add-zero}
+use native.Mathlib.Omega.{arith}
 use lib.Dec.{eqb}
-use lib.ListN.{length, getD, set, length-set}
+use lib.ListN.{length, getD, replicate, set, length-set}
+use lib.Seq.{getD-set-other}
 use Rattle.scope.specs.Refusals.{pick}
 use Rattle.words.specs.Bytes.{IsBlock}
 use Rattle.words.proofs.Rows.{Below, row-set, zeros-block}
@@ -12,7 +16,7 @@ use Rattle.ghash.specs.Hash.{eat}
 use Rattle.ghash.proofs.Hashing.{eat-block}
 use Rattle.digest.specs.Sum.{Sum, fresh}
 use Rattle.digest.specs.Digest.{push, absorb, settled}
-use Rattle.digest.proofs.Pieces.{sum}
+use Rattle.digest.proofs.Pieces.{sum, push-inside, push-fills}
 
 -- both ways that a byte can go
 picked {ℓ} : {A : Type 0} (P : A → Type ℓ) (t : Bool) {a b : A} → P a → P b → P (pick t a b)
@@ -46,3 +50,35 @@ module _ (h : List ℕ) (y : Sum) (n : ℕ) (s : List ℕ) where
 pub settled-block : (h : List ℕ) (y : Sum) (n : ℕ) → IsBlock (y .hash) → IsBlock (settled h y n)
 unfolding settled
 settled-block h y n p = picked IsBlock (eqb (n % 16) 0) p (eat-block h (y .hash) (y .pending))
+
+-- ---- zeros behind the bytes held
+
+-- n bytes are in, and past those of them that are held stand zeros
+abbrev pub ZerosBehind : ℕ → Sum → Type 0
+ZerosBehind n y = (i : ℕ) → n % 16 ≤ i → getD (y .pending) i 0 ≡ 0
+
+zero-at : (n i : ℕ) → _≡_ {A = ℕ} (getD (replicate n 0) i 0) 0
+zero-at zero i = refl
+zero-at (suc n) zero = refl
+zero-at (suc n) (suc i) = zero-at n i
+
+-- a hash with no bytes held
+pub fresh-behind : (n : ℕ) (y : List ℕ) → ZerosBehind n (fresh y)
+fresh-behind n y i k = zero-at 16 i
+
+pub push-behind : (h : List ℕ) (y : Sum) (n b : ℕ) → ZerosBehind n y → ZerosBehind (n + 1) (push h y n b)
+push-behind h y n b z i k = go (ℕ-discrete (n % 16) 15)
+  where
+    go : Dec (n % 16 ≡ 15) → getD (push h y n b .pending) i 0 ≡ 0
+    go (yes e) = ap (λ (u : Sum). getD (u .pending) i 0) (push-fills h y n b e) ∙ zero-at 16 i
+    go (no e) =
+        ap (λ (u : Sum). getD (u .pending) i 0) (push-inside h y n b (omega (arith, e)))
+        ∙ getD-set-other (y .pending) (n % 16) i b 0 (omega (arith, e, k))
+        ∙ z i (omega (arith, e, k))
+
+pub absorb-behind : (h : List ℕ) (y : Sum) (n : ℕ) (s : List ℕ) → ZerosBehind n y → ZerosBehind (n + length s) (absorb h y n s)
+unfolding absorb
+absorb-behind h y n [] z i k = z i (rw (add-zero n) at k)
+absorb-behind h y n (b ∷ s) z i k =
+    let e : n + suc (length s) ≡ n + 1 + length s = omega arith in
+    absorb-behind h (push h y n b) (n + 1) s (push-behind h y n b z) i (rw e at k)

@@ -63,9 +63,6 @@ absorb-fresh h y n s z =
 pub absorb-hash : (h y s : List ℕ) → absorb h (fresh y) 0 s .hash ≡ hashFrom h y s
 absorb-hash h y s = ap (λ (u : Sum). u .hash) (absorb-fresh h y 0 s refl)
 
-pub absorb-pending : (h y s : List ℕ) → absorb h (fresh y) 0 s .pending ≡ rest s ++ replicate (16 - length s % 16) 0
-absorb-pending h y s = ap (λ (u : Sum). u .pending) (absorb-fresh h y 0 s refl)
-
 -- ---- settled
 
 pub settled-whole : (h : List ℕ) (y : Sum) (n : ℕ) → n % 16 ≡ 0 → settled h y n ≡ y .hash

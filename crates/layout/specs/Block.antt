@@ -9,7 +9,7 @@ use Rattle.fields.specs.Fields.{check}
 use Rattle.cipher.specs.Registers.{Registers}
 use Rattle.digest.specs.Sum.{Sum}
 
--- what a block says of a session: H, the end pad and the current keystream block are not in it, since they come from walking back
+-- what a block says of a session: the IV, H, the end pad and the current keystream block are not in it, since they come from walking back
 pub record Suspended : Type 0 where
   -- 0 data, 1 text
   pub phase : ℕ

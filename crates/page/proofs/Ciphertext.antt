@@ -2,21 +2,17 @@
 -- xor with the same keystream undoes the first.
 use mathlib.Core.Path.{_≡_, refl, ap}
 use mathlib.Core.List.{List, [], _∷_, _++_}
-use Prim.Native.Nat.{ℕ, zero, suc, _+_, _/_, _%_}
+use Prim.Native.Nat.{ℕ, suc, _+_, _/_, _%_}
 use native.Mathlib.Nat.{add-zero}
 use native.Mathlib.Omega.{arith}
-use lib.Dec.{lit<}
 use lib.ListN.{length, getD}
 use Rattle.words.specs.Xor.{_⊕_}
 use Rattle.words.specs.Bytes.{Row, IsBlock}
-use Rattle.words.proofs.Rows.{Below}
-use Rattle.words.proofs.XorLaws.{⊕-lt, xor}
-use Rattle.cipher.specs.Registers.{IsRegisters}
+use Rattle.words.proofs.XorLaws.{xor}
 use Rattle.cipher.specs.Run.{forward, moves}
 use Rattle.cipher.proofs.Inverse.{z-block}
-use Rattle.cipher.proofs.Moves.{moves-good}
 use Rattle.start.specs.Start.{Mode.sealed, start, sealed-keystream}
-use Rattle.start.proofs.Undo.{start-good}
+use Rattle.start.proofs.Undo.{drawn-good}
 use Rattle.page.specs.Page.{encrypted, cipher-of}
 
 -- the keystream's byte for byte i of the text
@@ -52,20 +48,7 @@ module _ (key iv : List ℕ) where
   pub cipher-twice : (t : List ℕ) → cipher-of key iv (cipher-of key iv t) ≡ t
   cipher-twice t = encrypted-twice 0 t
 
--- ---- bytes stay bytes
+-- ---- the keystream's blocks
 
-module _ (key iv : List ℕ) (k : Row 32 256 key) (v : IsBlock iv) where
-  pub drawn-good : (n : ℕ) → IsRegisters (moves forward n (start key iv sealed))
-  drawn-good n = moves-good forward n (start key iv sealed) (start-good key k iv sealed v)
-
-  pub stream-block : (n : ℕ) → IsBlock (sealed-keystream key iv n)
-  stream-block n = z-block (moves forward n (start key iv sealed)) (drawn-good n)
-
-  pub encrypted-below : (i : ℕ) (t : List ℕ) → Below 256 t → Below 256 (encrypted key iv i t)
-  unfolding encrypted
-  encrypted-below i [] e j = lit< tt
-  encrypted-below i (b ∷ t) e zero = ⊕-lt 8 b _ (e 0) (stream-block _ .below (i % 16))
-  encrypted-below i (b ∷ t) e (suc j) = encrypted-below (i + 1) t (λ m. e (suc m)) j
-
-  pub cipher-below : (t : List ℕ) → Below 256 t → Below 256 (cipher-of key iv t)
-  cipher-below t e = encrypted-below 0 t e
+pub stream-block : (key iv : List ℕ) → Row 32 256 key → IsBlock iv → (n : ℕ) → IsBlock (sealed-keystream key iv n)
+stream-block key iv k v n = z-block (moves forward n (start key iv sealed)) (drawn-good key k iv sealed v n)

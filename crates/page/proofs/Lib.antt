@@ -5,7 +5,6 @@ pub mod Tags
 pub mod OnePass
 pub mod WholeCalls
 pub mod AtOnce
-pub mod Holding
 pub mod Answers
 pub mod Refusing
 pub mod Checking

@@ -17,11 +17,12 @@ use Rattle.cipher.specs.Step.{z}
 use Rattle.cipher.specs.Run.{forward, made, moves, zs, blocks}
 use Rattle.cipher.proofs.Moves.{moves-add, blocks-more, blocks-length}
 use Rattle.start.specs.Start.{Mode.sealed, start, sealed-keystream}
+use Rattle.start.proofs.Undo.{drawn-good}
 use Rattle.session.specs.Pass.{SoFar, Next}
 use Rattle.session.proofs.Sealing.{next-part}
 use Rattle.page.specs.Page.{encrypted, cipher-of, page-tag}
 use Rattle.page.specs.OnePass.{page-pass, Passes, OnePass}
-use Rattle.page.proofs.Ciphertext.{encrypted-append, cipher-length, drawn-good, stream-block}
+use Rattle.page.proofs.Ciphertext.{encrypted-append, cipher-length, stream-block}
 use Rattle.page.proofs.Tags.{tag-by-hash}
 
 module _ (key iv : List ℕ) (k : Row 32 256 key) (v : IsBlock iv) where
@@ -51,7 +52,7 @@ module _ (key iv : List ℕ) (k : Row 32 256 key) (v : IsBlock iv) where
       let la : length a ≡ 16 * n = length-take-le (16 * n) t (omega arith) in
       let lb : length b ≤ 16 = simp length-drop (omega arith) in
       let e : 0 + length a ≡ 16 * n + 0 = omega arith in
-      let q = drawn-good key iv k v 2 in
+      let q = drawn-good key k iv sealed v 2 in
       ap (cipher-of key iv) (sym (take-append-drop (16 * n) t))
       ∙ encrypted-append key iv 0 a b
       ∙ ap₂ (λ (x y : List ℕ). x ++ y) (cipher-blocks n a (omega arith) (omega arith))
@@ -76,7 +77,7 @@ module _ (key iv : List ℕ) (k : Row 32 256 key) (v : IsBlock iv) where
     next b n h =
         let e : b ≡ 0 + b = omega arith in
         let f : 16 * b ≡ 0 + 16 * b = omega arith in
-        next-part (drawn-good key iv k v 2) all-blocks b n h e f (sym (moves-add forward 2 b (start key iv sealed)))
+        next-part (drawn-good key k iv sealed v 2) all-blocks b n h e f (sym (moves-add forward 2 b (start key iv sealed)))
 
     pub passes : Passes key iv d t out
     passes =

@@ -52,6 +52,7 @@ module _ (key iv : List ℕ) where
         pad = session-at key iv g .pad;
         current = session-at key iv g .current;
         sum = y;
+        iv = iv;
       }
 
   pub session-is : (g : Stage) → session-at key iv g ≡ session-of key iv (ad-of g) (text-of g) (text-begun-of g)

@@ -2,20 +2,14 @@
 -- pieces accepted so far, and each call moves it to the next, so that sealing by pieces is sealing at once.
 use mathlib.Core.Path.{_≡_, refl, sym, ap, ap₂, _∙_}
 use mathlib.Core.List.{List, [], _∷_, _++_, append-assoc, append-nil}
-use mathlib.Core.Bool.{Bool, true, false}
-use Prim.Native.Nat.{ℕ, suc, _+_, _/_, _%_}
+use Prim.Native.Nat.{ℕ, _+_, _/_, _%_}
 use native.Mathlib.Nat.{zero-add}
-use native.Mathlib.Omega.{arith}
-use borrow.Author.Tests.{eqb-true, eqb-false}
-use lib.Dec.{eqb}
 use lib.ListN.{length, getD, length-append}
-use Rattle.scope.specs.Refusals.{pick}
 use Rattle.words.specs.Xor.{_⊕_}
 use Rattle.words.specs.Bytes.{zeros}
 use Rattle.ghash.specs.Hash.{ceil16}
 use Rattle.cipher.specs.Run.{forward, moves}
-use Rattle.cipher.specs.State.{State, moved}
-use Rattle.cipher.proofs.Stepping.{moved-more}
+use Rattle.cipher.specs.State.{moved}
 use Rattle.start.specs.Start.{Mode.sealed, started, sealed-keystream}
 use Rattle.digest.specs.Sum.{Sum, fresh}
 use Rattle.digest.specs.Digest.{push, absorb, settled}
@@ -23,6 +17,7 @@ use Rattle.digest.proofs.Pieces.{absorb-append, absorb-one}
 use Rattle.session.specs.Session.{Session, drawn-at}
 use Rattle.session.specs.Calls.{begun}
 use Rattle.session.specs.Pieces.{data-taken, closed, byte-current, byte-out, byte-taken, text-taken, text-out}
+use Rattle.session.proofs.Drawing.{state-next, current-is, current-next}
 use Rattle.page.specs.Page.{encrypted, cipher-of}
 use Rattle.page.proofs.Phases.{ad-sum, text-sum}
 use Rattle.page.proofs.Ciphertext.{stream-byte, encrypted-append, encrypted-one, encrypted-length}
@@ -61,6 +56,7 @@ module _ (key iv : List ℕ) where
         pad = sealed-keystream key iv 1;
         current = sealed-keystream key iv (1 + ceil16 (length (text-of g)));
         sum = sum-at g;
+        iv = iv;
       }
 
   -- ---- begin, data
@@ -82,6 +78,7 @@ module _ (key iv : List ℕ) where
         current = sealed-keystream key iv (1 + ceil16 0);
         sum = (ap (λ (n : ℕ). absorb (sealed-keystream key iv 0) (ad-sum (sealed-keystream key iv 0) d) n p) (sym (zero-add (length d)))
             ∙ absorb-append (sealed-keystream key iv 0) (fresh zeros) 0 d p) i;
+        iv = iv;
       }
 
   -- ---- text
@@ -93,44 +90,13 @@ module _ (key iv : List ℕ) where
 
   module _ (d t : List ℕ) where
     -- the block in use is the keystream's block for this byte
-    pub current-at : byte-current (session-at (taking-text d t)) ≡ sealed-keystream key iv (2 + length t / 16)
-    unfolding byte-current session-at
-    current-at = go (eqb (length t % 16) 0) refl
-      where
-        go : (c : Bool) → eqb (length t % 16) 0 ≡ c
-            → pick (eqb (length t % 16) 0) (sealed-keystream key iv (drawn-at (length t))) (sealed-keystream key iv (1 + ceil16 (length t))) ≡ sealed-keystream key iv (2 + length t / 16)
-        go true e =
-            let m : length t % 16 ≡ 0 = eqb-true (length t % 16) 0 e in
-            let n : drawn-at (length t) ≡ 2 + length t / 16 = omega arith in
-            rw e (ap (sealed-keystream key iv) n)
-        go false e =
-            let m : length t % 16 ≡ 0 → ⊥ = eqb-false (length t % 16) 0 e in
-            let n : 1 + ceil16 (length t) ≡ 2 + length t / 16 = omega arith in
-            rw e (ap (sealed-keystream key iv) n)
+    current-at : byte-current (session-at (taking-text d t)) ≡ sealed-keystream key iv (2 + length t / 16)
+    unfolding session-at
+    current-at = current-is (started key iv sealed) (session-at (taking-text d t)) refl refl
 
     pub byte-at : (b : ℕ) → byte-out (session-at (taking-text d t)) b ≡ b ⊕ stream-byte key iv (length t)
     unfolding byte-out session-at
     byte-at b = ap (λ (c : List ℕ). b ⊕ getD c (length t % 16) 0) current-at
-
-    -- one is drawn where the text has filled its blocks
-    drawn-next : (r : ℕ → State) → ((n : ℕ) → moved forward 1 (r n) ≡ r (suc n))
-        → pick (eqb (length t % 16) 0) (moved forward 1 (r (drawn-at (length t)))) (r (drawn-at (length t))) ≡ r (drawn-at (length t + 1))
-    drawn-next r more = go (eqb (length t % 16) 0) refl
-      where
-        go : (c : Bool) → eqb (length t % 16) 0 ≡ c
-            → pick (eqb (length t % 16) 0) (moved forward 1 (r (drawn-at (length t)))) (r (drawn-at (length t))) ≡ r (drawn-at (length t + 1))
-        go true e =
-            let m : length t % 16 ≡ 0 = eqb-true (length t % 16) 0 e in
-            let n : suc (drawn-at (length t)) ≡ drawn-at (length t + 1) = omega arith in
-            rw e (more (drawn-at (length t)) ∙ ap r n)
-        go false e =
-            let m : length t % 16 ≡ 0 → ⊥ = eqb-false (length t % 16) 0 e in
-            let n : drawn-at (length t) ≡ drawn-at (length t + 1) = omega arith in
-            rw e (ap r n)
-
-    state-next : pick (eqb (length t % 16) 0) (moved forward 1 (moved forward (drawn-at (length t)) (started key iv sealed))) (moved forward (drawn-at (length t)) (started key iv sealed))
-        ≡ moved forward (drawn-at (length t + 1)) (started key iv sealed)
-    state-next = drawn-next (λ n. moved forward n (started key iv sealed)) (λ n. moved-more forward n (started key iv sealed))
 
     module _ (b : ℕ) where
       -- one byte more of the ciphertext
@@ -158,17 +124,18 @@ module _ (key iv : List ℕ) where
       pub byte-taken-at : byte-taken (session-at (taking-text d t)) b ≡ session-at (taking-text d (t ++ (b ∷ [])))
       unfolding byte-taken session-at phase-at
       byte-taken-at =
+          let u = session-at (taking-text d t) in
           let one : length t + 1 ≡ length (t ++ (b ∷ [])) = sym (length-append t (b ∷ [])) in
-          let c : 2 + length t / 16 ≡ 1 + ceil16 (length t + 1) = omega arith in
           λ i. record {
             phase = 1;
             ad = length d;
             text = one i;
-            state = (state-next ∙ ap (λ (n : ℕ). moved forward (drawn-at n) (started key iv sealed)) one) i;
+            state = (state-next (started key iv sealed) u refl b ∙ ap (λ (n : ℕ). moved forward (drawn-at n) (started key iv sealed)) one) i;
             h = sealed-keystream key iv 0;
             pad = sealed-keystream key iv 1;
-            current = (current-at ∙ ap (sealed-keystream key iv) c ∙ ap (λ (n : ℕ). sealed-keystream key iv (1 + ceil16 n)) one) i;
+            current = (current-next (started key iv sealed) u refl refl b ∙ ap (λ (n : ℕ). sealed-keystream key iv (1 + ceil16 n)) one) i;
             sum = sum-next i;
+            iv = iv;
           }
 
   pub text-taken-at : (d t p : List ℕ) → text-taken (session-at (taking-text d t)) p ≡ session-at (taking-text d (t ++ p))

@@ -1,19 +1,19 @@
 -- Each call on a session that a list of calls reaches, as a whole: its number, its output and the session handed back.
-use mathlib.Core.Path.{_≡_, refl, sym, _∙_}
+use mathlib.Core.Path.{_≡_, refl, ap, _∙_}
 use mathlib.Core.List.{List, [], _++_}
-use mathlib.Core.Bool.{Bool, true, false, not}
+use mathlib.Core.Bool.{not}
 use Prim.Native.Nat.{ℕ, _+_, _≤_, _<_}
 use native.Mathlib.Nat.{zero-add}
 use native.Mathlib.Omega.{arith}
-use borrow.Author.Tests.{le-ltb, lt-ltb, ltb-false}
+use borrow.Author.Tests.{le-ltb, lt-ltb}
 use lib.Dec.{ltb, lit<}
 use lib.ListN.{length, drop}
 use Rattle.scope.specs.Limits.{most-data, most-text}
 use Rattle.scope.specs.Refusals.{refuse, out-of-phase, too-long, short-output}
-use Rattle.scope.proofs.Refusing.{refuse-none}
 use Rattle.start.proofs.Answers.{both-right}
 use Rattle.session.specs.Session.{drawn-at}
 use Rattle.session.proofs.Counts.{text-number-fits}
+use Rattle.session.proofs.Numbers.{data-open, text-within, finish-accepted}
 use Rattle.session.specs.Calls.{begin-call, data-number, data-call, text-number, text-call, finish-number, finished, finish-call}
 use Rattle.page.specs.Page.{encrypted, page-tag}
 use Rattle.page.proofs.Stages.{Stage, Stage.taking-data, Stage.taking-text, ad-of, text-of, phase-at, session-at, begun-at, data-at, closed-at, text-taken-at, text-out-at}
@@ -50,10 +50,9 @@ module _ (key iv : List ℕ) where
   -- an accepted piece of data found the data open and kept to the limit
   pub data-accepted : (g : Stage) (p : List ℕ) → data-number (session-at key iv g) p ≡ 0
       → (g ≡ taking-data (ad-of g)) × (length (ad-of g) + length p ≤ most-data)
-  unfolding data-number session-at phase-at
-  data-accepted (taking-data d) p n =
-      (refl, ltb-false most-data (length d + length p) (refuse-none (ltb most-data (length d + length p)) too-long 0 (lit< tt) n .0))
-  data-accepted (taking-text d t) p n = absurd (omega arith)
+  unfolding session-at phase-at
+  data-accepted (taking-data d) p n = (refl, data-open (session-at key iv (taking-data d)) p n .1)
+  data-accepted (taking-text d t) p n = absurd (let e = data-open (session-at key iv (taking-text d t)) p n .0 in omega arith)
 
   -- ---- text
 
@@ -91,13 +90,7 @@ module _ (key iv : List ℕ) where
     pub text-accepted : text-number (session-at key iv g) p out ≡ 0
         → (length (text-of g) + length p ≤ most-text) × (length p ≤ length out)
     unfolding session-at
-    text-accepted n =
-        let over : Bool = ltb most-text (length (text-of g) + length p) in
-        let small : Bool = ltb (length out) (length p) in
-        let a = refuse-none (not (ltb (phase-at g) 2)) out-of-phase (refuse over too-long (refuse small short-output 0)) (lit< tt) (sym text-number-is ∙ n) in
-        let b = refuse-none over too-long (refuse small short-output 0) (lit< tt) (a .1) in
-        let c = refuse-none small short-output 0 (lit< tt) (b .1) in
-        (ltb-false most-text (length (text-of g) + length p) (b .0), ltb-false (length out) (length p) (c .0))
+    text-accepted n = let w = text-within (session-at key iv g) p out n in (w .0, w .1 .1)
 
   -- ---- finish
 
@@ -107,6 +100,6 @@ module _ (key iv : List ℕ) where
     finish-number-at = rw (lt-ltb (phase-at g) 2 (phase-below g))
 
     pub finish-call-at : finish-call (session-at key iv g)
-        ≡ record { number = 0; out = page-tag key iv (ad-of g) (text-of g); session = finished (session-at key iv g) }
-    unfolding finish-call
-    finish-call-at = rw (finish-number-at, tag-at key iv g)
+        ≡ record { number = 0; tag = page-tag key iv (ad-of g) (text-of g); iv = iv; session = finished (session-at key iv g) }
+    unfolding session-at
+    finish-call-at = finish-accepted (session-at key iv g) finish-number-at ∙ ap (λ (t : List ℕ). record { number = 0; tag = t; iv = iv; session = finished (session-at key iv g) }) (tag-at key iv g)

@@ -38,4 +38,5 @@ session-of key iv d t begun =
       pad = sealed-keystream key iv 1;
       current = sealed-keystream key iv (1 + ceil16 (length t));
       sum = sum-of key iv d t begun;
+      iv = iv;
     }

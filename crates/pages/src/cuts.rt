@@ -10,10 +10,6 @@ const DATA: [u8; 50] = *b"arrival 2026-07-03, departure 2026-07-17, pitch 12";
 
 const TEXT: [u8; 50] = *b"two adults, one child, one tent, tax of 1.10 a day";
 
-fn is(named: [u8; 16], iv: &[u8]) -> bool {
-    output::same_tag(&named, iv)
-}
-
 // The session that resume gives for the block of a session suspended, where all is accepted and it is this IV's.
 pub fn resumed(g: Going, key: &[u8], iv: &[u8]) -> Going {
     let s = g.session;
@@ -23,17 +19,17 @@ pub fn resumed(g: Going, key: &[u8], iv: &[u8]) -> Going {
     let t = r.session;
     let named = r.iv;
     Going {
-        accepted: g.accepted & (d.answer == 0) & (r.answer == 0) & is(named, iv),
+        accepted: g.accepted & (d.answer == 0) & (r.answer == 0) & output::is(named, iv),
         session: t,
     }
 }
 
-// Whether the page sealed whole has this ciphertext in its output, and the session finishes with its tag.
+// Whether the page sealed whole has this ciphertext in its output, and the session finishes with its tag and IV.
 fn agrees(g: Going, key: &[u8], iv: &[u8], ad: &[u8], text: &[u8], cipher: &[u8]) -> bool {
     let mut out = output::fresh();
     let s = page::seal(key, iv, ad, text, &mut out);
     let tag = s.tag;
-    (s.answer == 0) & output::same_tag(cipher, &out) & pieces::finishes(g, &tag)
+    (s.answer == 0) & output::same(cipher, &out) & pieces::finishes(g, &tag, iv)
 }
 
 fn data_cut(key: &[u8], iv: &[u8], ad: &[u8], text: &[u8], cut: usize) -> bool

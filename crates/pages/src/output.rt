@@ -25,7 +25,12 @@ pub fn holds(out: &[u8], front: &[u8]) -> bool {
     same
 }
 
-// Whether a tag is the one expected.
-pub fn same_tag(tag: &[u8], other: &[u8]) -> bool {
-    (tag.len() == other.len()) & holds(tag, other)
+// Whether bytes are the ones expected.
+pub fn same(got: &[u8], other: &[u8]) -> bool {
+    (got.len() == other.len()) & holds(got, other)
+}
+
+// Whether a tag or an IV is the one expected.
+pub fn is(got: [u8; 16], other: &[u8]) -> bool {
+    same(&got, other)
 }

@@ -92,15 +92,16 @@ pub fn begun(key: &[u8], iv: &[u8]) -> Going {
     }
 }
 
-// Whether a session finishes with this tag, every call accepted.
-pub fn finishes(g: Going, tag: &[u8]) -> bool {
+// Whether a session finishes with this tag and the IV that it was begun with, every call accepted.
+pub fn finishes(g: Going, tag: &[u8], iv: &[u8]) -> bool {
     let s = g.session;
     let f = session::finish(s);
     let got = f.tag;
-    g.accepted & (f.answer == 0) & output::same_tag(&got, tag)
+    let given = f.iv;
+    g.accepted & (f.answer == 0) & output::is(got, tag) & output::is(given, iv)
 }
 
-// Whether every call is accepted, and the session gives this ciphertext and tag.
+// Whether every call is accepted, and the session gives this ciphertext, tag and IV.
 pub fn seals(
     key: &[u8],
     iv: &[u8],
@@ -115,5 +116,5 @@ pub fn seals(
     let told = all_data(begun(key, iv), ad, size);
     let mut out = output::fresh();
     let g = all_text(told, whole, &mut out, size);
-    finishes(g, tag) & output::holds(&out, cipher)
+    finishes(g, tag, iv) & output::holds(&out, cipher)
 }

@@ -9,7 +9,7 @@ fn seals(key: &[u8], iv: &[u8], ad: &[u8], text: &[u8], cipher: &[u8], tag: &[u8
     let mut out = output::fresh();
     let s = page::seal(key, iv, ad, text, &mut out);
     let got = s.tag;
-    (s.answer == 0) & output::holds(&out, cipher) & output::same_tag(&got, tag)
+    (s.answer == 0) & output::holds(&out, cipher) & output::same(&got, tag)
 }
 
 // Whether an opening gives this answer and leaves these bytes at the front of the output, and nothing else.

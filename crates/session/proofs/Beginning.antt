@@ -16,6 +16,6 @@ module _ (key iv : List ℕ) where
   unfolding begin-call
   refused-session h = rw (ne-eqb (start-number key iv) 0 h)
 
-  pub granted-session : start-number key iv ≡ 0 → begin-call key iv .session ≡ begun-from (started key iv sealed)
+  pub granted-session : start-number key iv ≡ 0 → begin-call key iv .session ≡ begun-from (started key iv sealed) iv
   unfolding begin-call begun
   granted-session e = rw e

@@ -6,12 +6,11 @@ use mathlib.Core.List.{List}
 use Prim.Native.Nat.{ℕ, _+_, _≤_}
 use native.Mathlib.Omega.{arith}
 use borrow.Author.Tests.{ltb-false}
-use lib.Dec.{eqb, ltb, lit<}
+use lib.Dec.{eqb, ltb}
 use lib.ListN.{length}
 use Rattle.scope.specs.Limits.{most-text}
 use Rattle.scope.specs.Refusals.{granted, refuse, out-of-phase, too-long, count-too-high, short-output}
 use Rattle.cipher.specs.Run.{forward}
-use Rattle.scope.proofs.Refusing.{refuse-none}
 use Rattle.cipher.specs.State.{State, moved, steps-number}
 use Rattle.cipher.specs.Laws.{steps, NoneRefused}
 use Rattle.cipher.proofs.Counting.{goes-on, not-far}
@@ -19,6 +18,7 @@ use Rattle.cipher.proofs.CountedSteps.{none-of, as-run}
 use Rattle.session.specs.Session.{Session, drawn-at, drawn-by}
 use Rattle.session.specs.Pieces.{data-taken, closed, text-taken}
 use Rattle.session.specs.Calls.{text-too-far, text-number, data-number, data-call, text-call, finish-number, finished, finish-call}
+use Rattle.session.proofs.Numbers.{text-within}
 use Rattle.session.proofs.Pieces.{text-count, text-moves, text-draws, closed-text, closed-state}
 
 module _ (s : Session) (e : s .state .count ≡ drawn-at (s .text)) where
@@ -77,14 +77,8 @@ module _ (s : Session) (p out : List ℕ) (e : text-call s p out .number ≡ 0) 
   n = drawn-by (s .text) (length p)
 
   counts : steps-number forward n (s .state .count) ≡ 0
-  unfolding text-call text-number steps-number
-  counts =
-      let small = refuse (ltb (length out) (length p)) short-output 0 in
-      let far = refuse (text-too-far s p) count-too-high small in
-      let a = refuse-none (not (ltb (s .phase) 2)) out-of-phase (refuse (ltb most-text (s .text + length p)) too-long far) (lit< tt) e in
-      let b = refuse-none (ltb most-text (s .text + length p)) too-long far (lit< tt) (a .1) in
-      let c = refuse-none (text-too-far s p) count-too-high small (lit< tt) (b .1) in
-      ap (λ (f : Bool). refuse f count-too-high 0) (c .0)
+  unfolding text-call steps-number
+  counts = ap (λ (f : Bool). refuse f count-too-high 0) (text-within s p out e .1 .0)
 
   pub text-none-refused : NoneRefused forward n (s .state)
   text-none-refused = none-of forward n (s .state) counts

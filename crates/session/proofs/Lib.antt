@@ -1,5 +1,6 @@
 pub mod Sealing
 pub mod Pieces
+pub mod Drawing
 pub mod Within
 pub mod Going
 pub mod Made

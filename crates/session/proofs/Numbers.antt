@@ -3,10 +3,13 @@ use mathlib.Core.Path.{_≡_, sym, _∙_}
 use mathlib.Core.List.{List, _++_}
 use Prim.Native.Nat.{ℕ, suc, _+_, _≤_, _<_}
 use native.Mathlib.Omega.{arith}
-use borrow.Author.Tests.{eq-eqb, ne-eqb, lt-ltb, le-ltb}
-use mathlib.Core.Bool.{true, false}
+use borrow.Author.Tests.{eqb-true, not-false, eq-eqb, ne-eqb, lt-ltb, le-ltb, ltb-false}
+use mathlib.Core.Bool.{true, false, not}
+use lib.Dec.{eqb, ltb, lit<}
 use lib.ListN.{length, drop}
 use Rattle.scope.specs.Limits.{most-data, most-text}
+use Rattle.scope.specs.Refusals.{refuse, out-of-phase, too-long, count-too-high, short-output}
+use Rattle.scope.proofs.Refusing.{refuse-none}
 use Rattle.words.specs.Bytes.{zeros}
 use Rattle.session.specs.declared.Session as machine
 use Rattle.session.specs.declared.Said.{Said}
@@ -57,6 +60,29 @@ pub finish-due : (s : Session) → s .phase < 2 → finish-number s ≡ 0
 unfolding finish-number
 finish-due s h = rw (lt-ltb (s .phase) 2 h)
 
+-- ---- what an accepted piece found
+
+-- the data open, and room for it under the limit
+pub data-open : (s : Session) (p : List ℕ) → data-number s p ≡ 0 → (s .phase ≡ 0) × (s .ad + length p ≤ most-data)
+unfolding data-number
+data-open s p n =
+    let a = refuse-none (not (eqb (s .phase) 0)) out-of-phase (refuse (ltb most-data (s .ad + length p)) too-long 0) (lit< tt) n in
+    let b = refuse-none (ltb most-data (s .ad + length p)) too-long 0 (lit< tt) (a .1) in
+    (eqb-true (s .phase) 0 (not-false (eqb (s .phase) 0) (a .0)), ltb-false most-data (s .ad + length p) (b .0))
+
+-- room for it under both limits and in the output
+pub text-within : (s : Session) (p out : List ℕ) → text-number s p out ≡ 0
+    → (s .text + length p ≤ most-text) × ((text-too-far s p ≡ false) × (length p ≤ length out))
+unfolding text-number
+text-within s p out n =
+    let small = refuse (ltb (length out) (length p)) short-output 0 in
+    let far = refuse (text-too-far s p) count-too-high small in
+    let a = refuse-none (not (ltb (s .phase) 2)) out-of-phase (refuse (ltb most-text (s .text + length p)) too-long far) (lit< tt) n in
+    let b = refuse-none (ltb most-text (s .text + length p)) too-long far (lit< tt) (a .1) in
+    let c = refuse-none (text-too-far s p) count-too-high small (lit< tt) (b .1) in
+    let d = refuse-none (ltb (length out) (length p)) short-output 0 (lit< tt) (c .1) in
+    (ltb-false most-text (s .text + length p) (b .0), (c .0, ltb-false (length out) (length p) (d .0)))
+
 -- ---- what the calls then give
 
 module _ (s : Session) (p : List ℕ) where
@@ -83,19 +109,10 @@ module _ (s : machine.Session) (p out : List ℕ) where
   text-accepted r after e er eo = (record { number = sym e; session = er ∙ rw e }, eo ∙ rw e)
 
 module _ (s : Session) where
-  pub finish-zeros : finish-number s ≡ 7 → finish-call s .out ≡ zeros
+  pub finish-refused : finish-number s ≡ 7 → finish-call s ≡ record { number = 7; tag = zeros; iv = zeros; session = s }
   unfolding finish-call
-  finish-zeros e = rw e
+  finish-refused e = rw e
 
-  pub finish-kept : finish-number s ≡ 7 → finish-call s .session ≡ s
+  pub finish-accepted : finish-number s ≡ 0 → finish-call s ≡ record { number = 0; tag = tag-of s; iv = s .iv; session = finished s }
   unfolding finish-call
-  finish-kept e = rw e
-
-  pub finish-tag : finish-number s ≡ 0 → finish-call s .out ≡ tag-of s
-  unfolding finish-call
-  finish-tag e = rw e
-
-  pub finish-ended : finish-number s ≡ 0 → finish-call s .session
-      ≡ record { phase = 2; ad = s .ad; text = s .text; state = s .state; h = s .h; pad = s .pad; current = s .current; sum = s .sum }
-  unfolding finish-call finished
-  finish-ended e = rw e
+  finish-accepted e = rw e

@@ -97,6 +97,10 @@ pub text-pad : (s : Session) (p : List ℕ) → text-taken s p .pad ≡ s .pad
 unfolding byte-taken
 text-pad = text-keeps (λ s. s .pad) (λ s b. refl)
 
+pub text-iv : (s : Session) (p : List ℕ) → text-taken s p .iv ≡ s .iv
+unfolding byte-taken
+text-iv = text-keeps (λ s. s .iv) (λ s b. refl)
+
 -- the hash goes as the digest of the ciphertext does
 pub text-sum : (s : Session) (p : List ℕ) → text-taken s p .sum ≡ absorb (s .h) (s .sum) (s .text) (text-out s p)
 unfolding text-taken text-out byte-taken absorb
@@ -176,6 +180,7 @@ told-taken s p y e f =
       pad = s .pad;
       current = s .current;
       sum = f i;
+      iv = s .iv;
     }
 
 pub data-append : (s : Session) (p q : List ℕ) → data-taken s (p ++ q) ≡ data-taken (data-taken s p) q
@@ -191,4 +196,5 @@ data-append s p q =
       pad = s .pad;
       current = s .current;
       sum = sym (absorb-append (s .h) (s .sum) (s .ad) p q) i;
+      iv = s .iv;
     }

@@ -27,4 +27,5 @@ sessionOf-one s t vs ws p q e =
       pad = pad i;
       current = current i;
       state = state i;
+      iv = e i .iv;
     }

@@ -19,7 +19,7 @@ use Rattle.digest.proofs.Pieces.{absorb-over, absorb-whole}
 use Rattle.session.specs.Session.{Session}
 use Rattle.session.specs.Pieces.{text-taken, text-out}
 use Rattle.session.specs.Inner.{under-blocks}
-use Rattle.session.proofs.Pieces.{text-none, out-none, text-append, out-append, out-length, text-count, text-phase, text-ad, text-h, text-pad, text-sum}
+use Rattle.session.proofs.Pieces.{text-none, out-none, text-append, out-append, out-length, text-count, text-phase, text-ad, text-h, text-pad, text-iv, text-sum}
 use Rattle.session.proofs.Within.{ready-start, drawn-once, block-out}
 
 -- one block more under the keystream
@@ -86,6 +86,7 @@ module _ (s : Session) (g : IsRegisters (s .state .registers)) (start : s .text 
         pad = s .pad;
         current = z (moves forward (k - 1) r);
         sum = fresh (hashFrom (s .h) (s .sum .hash) (under-blocks r k p));
+        iv = s .iv;
       }
   whole-taken k p e some long =
       let d = drawn-blocks k p e in
@@ -101,4 +102,5 @@ module _ (s : Session) (g : IsRegisters (s .state .registers)) (start : s .text 
         sum = (text-sum s p ∙ absorb-over (s .h) (s .sum) (s .text) (text-out s p) long start (omega arith)
             ∙ absorb-whole (s .h) (s .sum .hash) (s .text) (text-out s p) start (omega arith)
             ∙ ap (λ (c : List ℕ). fresh (hashFrom (s .h) (s .sum .hash) c)) (d .output)) i;
+        iv = text-iv s p i;
       }

@@ -18,7 +18,7 @@ use Rattle.digest.proofs.Pieces.{absorb-inside, absorb-fills}
 use Rattle.session.specs.Session.{Session}
 use Rattle.session.specs.Pieces.{byte-current, byte-out, byte-taken, text-taken, text-out}
 use Rattle.session.specs.Inner.{ready, masked, counted, sent-on, held}
-use Rattle.session.proofs.Pieces.{out-length, text-count, text-phase, text-ad, text-h, text-pad, text-sum}
+use Rattle.session.proofs.Pieces.{out-length, text-count, text-phase, text-ad, text-h, text-pad, text-iv, text-sum}
 
 -- ---- the block in use
 
@@ -42,6 +42,7 @@ drawn s =
       pad = s .pad;
       current = z (s .state .registers);
       sum = s .sum;
+      iv = s .iv;
     }
 
 pub ready-start : (s : Session) → s .text % 16 ≡ 0 → ready s ≡ drawn s
@@ -97,6 +98,7 @@ module _ (s : Session) (p : List ℕ) (some : 0 < length p) (long : length (read
         pad = text-pad s p i;
         current = d .1 i;
         sum = e i;
+        iv = text-iv s p i;
       }
 
   hashed : text-taken s p .sum ≡ absorb (s .h) (s .sum) (s .text) (masked (ready s) p)

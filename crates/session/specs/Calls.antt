@@ -1,4 +1,4 @@
--- The calls of a session (document 01, "Sessions and parking"): for each its number, 0 or that of the refusal in the call's order, and what an
+-- The calls of a session (document 01, "Sessions and parking"; document 02, S-5): for each its number, 0 or that of the refusal in the call's order, and what an
 -- accepted call makes of the session. A refused call hands the session back as it was. Pieces and outputs are lists of bytes.
 use Prim.Native.Nat.{ℕ, _+_}
 use mathlib.Core.List.{List, [], _++_}
@@ -18,9 +18,9 @@ use Rattle.session.specs.Pieces.{data-taken, closed, text-taken, text-ou
 
 -- ---- begin: 1, 2 (the numbers of a start)
 
--- a session begun where a start leads: two blocks are drawn, H and the end pad
-abbrev pub begun-from : State → Session
-begun-from s =
+-- a session begun where a start leads: two blocks are drawn, H and the end pad; it carries the IV that it was handed
+abbrev pub begun-from : State → (iv : List ℕ) → Session
+begun-from s iv =
     record {
       phase = 0;
       ad = 0;
@@ -30,15 +30,16 @@ begun-from s =
       pad = z (moves forward 1 (s .registers));
       current = z (moves forward 1 (s .registers));
       sum = fresh zeros;
+      iv = iv;
     }
 
 -- the session that an accepted begin gives
 unfoldable pub begun : (key iv : List ℕ) → Session
-begun key iv = begun-from (started key iv sealed)
+begun key iv = begun-from (started key iv sealed) iv
 
 -- what a refused begin hands out in a session's place: it is finished, so that every call gives 7
 abbrev pub no-session : Session
-no-session = record { phase = 2; ad = 0; text = 0; state = blank; h = zeros; pad = zeros; current = zeros; sum = fresh zeros }
+no-session = record { phase = 2; ad = 0; text = 0; state = blank; h = zeros; pad = zeros; current = zeros; sum = fresh zeros; iv = zeros }
 
 -- ---- data: 7, 3
 
@@ -66,7 +67,7 @@ finish-number s = refuse (not (ltb (s .phase) 2)) out-of-phase 0
 
 unfoldable pub finished : Session → Session
 finished s =
-    record { phase = 2; ad = s .ad; text = s .text; state = s .state; h = s .h; pad = s .pad; current = s .current; sum = s .sum }
+    record { phase = 2; ad = s .ad; text = s .text; state = s .state; h = s .h; pad = s .pad; current = s .current; sum = s .sum; iv = s .iv }
 
 -- ---- each call as a whole: its number, what stands in the lent output afterwards, and the session handed back
 
@@ -89,11 +90,18 @@ text-call s p out =
       session = granted (text-number s p out) (text-taken (closed s) p) s;
     }
 
--- a refused finish gives zeros in the tag's place
-unfoldable pub finish-call : Session → Given
+-- finish gives the tag and the IV that the session carries (document 02, S-5); a refused one zeros in the place of each
+pub record Finished : Type 0 where
+  pub number : ℕ
+  pub tag : List ℕ
+  pub iv : List ℕ
+  pub session : Session
+
+unfoldable pub finish-call : Session → Finished
 finish-call s =
     record {
       number = finish-number s;
-      out = granted (finish-number s) (tag-of s) zeros;
+      tag = granted (finish-number s) (tag-of s) zeros;
+      iv = granted (finish-number s) (s .iv) zeros;
       session = granted (finish-number s) (finished s) s;
     }

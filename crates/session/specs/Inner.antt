@@ -22,12 +22,12 @@ use Rattle.session.specs.Pieces.{byte-current}
 -- n bytes more of data, which are hashed or held in y
 abbrev pub told : Session → ℕ → (y : Sum) → Session
 told s n y =
-    record { phase = s .phase; ad = s .ad + n; text = s .text; state = s .state; h = s .h; pad = s .pad; current = s .current; sum = y }
+    record { phase = s .phase; ad = s .ad + n; text = s .text; state = s .state; h = s .h; pad = s .pad; current = s .current; sum = y; iv = s .iv }
 
 -- the data closed, with their hash y
 abbrev pub into-text : Session → (y : List ℕ) → Session
 into-text s y =
-    record { phase = 1; ad = s .ad; text = s .text; state = s .state; h = s .h; pad = s .pad; current = s .current; sum = fresh y }
+    record { phase = 1; ad = s .ad; text = s .text; state = s .state; h = s .h; pad = s .pad; current = s .current; sum = fresh y; iv = s .iv }
 
 -- ---- bytes of one block
 
@@ -43,6 +43,7 @@ ready s =
       pad = s .pad;
       current = byte-current s;
       sum = s .sum;
+      iv = s .iv;
     }
 
 -- text under the block in use
@@ -52,7 +53,7 @@ masked s p = xors p (drop (s .text % 16) (s .current))
 -- a session at another length and hash
 abbrev pub counted : Session → ℕ → Sum → Session
 counted s n y =
-    record { phase = s .phase; ad = s .ad; text = n; state = s .state; h = s .h; pad = s .pad; current = s .current; sum = y }
+    record { phase = s .phase; ad = s .ad; text = n; state = s .state; h = s .h; pad = s .pad; current = s .current; sum = y; iv = s .iv }
 
 -- m bytes more are held, which makes them q
 abbrev pub holding : Session → List ℕ → ℕ → Session

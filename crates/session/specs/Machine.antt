@@ -6,9 +6,9 @@ use Rattle.cipher.specs.Machine.{stateOf}
 use Rattle.digest.specs.Machine.{sumOf}
 use Rattle.session.specs.declared.Session as machine
 use Rattle.session.specs.declared.Said.{Said}
-use Rattle.session.specs.declared.Finished.{Finished}
+use Rattle.session.specs.declared.Finished as finished
 use Rattle.session.specs.Session.{Session}
-use Rattle.session.specs.Calls.{Given}
+use Rattle.session.specs.Calls.{Given, Finished}
 
 abbrev pub sessionOf : machine.Session → Session
 sessionOf s =
@@ -21,6 +21,7 @@ sessionOf s =
       pad = bytesOf (s .pad);
       current = bytesOf (s .current);
       sum = sumOf (s .held);
+      iv = s .iv;
     }
 
 -- a call's number and session
@@ -28,8 +29,6 @@ pub record Says (g : Given) (r : Said) : Type 0 where
   pub number : r .answer ≡ g .number
   pub session : sessionOf (r .session) ≡ g .session
 
--- finish's, with the tag
-pub record Finishes (g : Given) (r : Finished) : Type 0 where
-  pub number : r .answer ≡ g .number
-  pub tag : r .tag ≡ g .out
-  pub session : sessionOf (r .session) ≡ g .session
+-- finish's, with the tag and the IV
+abbrev pub finishedOf : finished.Finished → Finished
+finishedOf r = record { number = r .answer; tag = r .tag; iv = r .iv; session = sessionOf (r .session) }

@@ -28,6 +28,7 @@ data-taken s p =
       pad = s .pad;
       current = s .current;
       sum = absorb (s .h) (s .sum) (s .ad) p;
+      iv = s .iv;
     }
 
 -- ---- text
@@ -45,6 +46,7 @@ closed s =
       pad = s .pad;
       current = s .current;
       sum = fresh (settled (s .h) (s .sum) (s .ad));
+      iv = s .iv;
     })
     s
 
@@ -67,6 +69,7 @@ byte-taken s b =
       pad = s .pad;
       current = byte-current s;
       sum = push (s .h) (s .sum) (s .text) (byte-out s b);
+      iv = s .iv;
     }
 
 -- a piece: the session after it, and its ciphertext

@@ -19,6 +19,8 @@ pub record Session : Type 0 where
   pub current : List ℕ
   -- the hash so far, and the bytes not yet hashed
   pub sum : Sum
+  -- the IV, its stay's number (document 02, S-5): begin's, or the one that walking back gave
+  pub iv : List ℕ
 
 -- blocks drawn at a text length
 abbrev pub drawn-at : ℕ → ℕ

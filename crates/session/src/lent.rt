@@ -40,7 +40,7 @@ pub fn begin_with(key: &[u8], iv: &[u8], rounds: &[u32; 256]) -> Said
     }
     Said {
         answer: scope::ACCEPTED,
-        session: crate::opened(registers, rounds),
+        session: crate::opened(registers, crate::carried(iv), rounds),
     }
 }
 

@@ -14,7 +14,7 @@ ghost use Rattle.digest.specs.Machine.{sumOf};
 ghost use Rattle.session.specs.Calls as Calls;
 ghost use Rattle.session.specs.Calls.{begun-from, begin-call, data-call, text-call, finish-call};
 ghost use Rattle.session.specs.Pieces.{closed, tag-of, text-taken, text-out};
-ghost use Rattle.session.specs.Machine.{sessionOf, Says, Finishes};
+ghost use Rattle.session.specs.Machine.{sessionOf, Says, finishedOf};
 ghost use Rattle.session.specs.Inner as Inner;
 ghost use Rattle.session.specs.Inner.{Part};
 
@@ -42,6 +42,8 @@ pub struct Session {
     pub pad: Block,
     pub current: Block,
     pub state: State,
+    // the IV: begin's, or the one that walking back gave
+    pub iv: [u8; 16],
 }
 
 // A call's answer, 0 or the refusal's number, and the session handed back.
@@ -50,9 +52,11 @@ pub struct Said {
     pub session: Session,
 }
 
+// A finish's answer, the tag and the IV, and the session handed back. Where it is refused, tag and IV are zeros.
 pub struct Finished {
     pub answer: u64,
     pub tag: [u8; 16],
+    pub iv: [u8; 16],
     pub session: Session,
 }
 
@@ -72,13 +76,28 @@ pub fn no_session() -> Session
         pad: zero,
         current: zero,
         held: digest::fresh(none),
+        iv: [0; 16],
     }
 }
 
-// The session that an accepted begin gives, from the registers of its start: H and the end pad are drawn.
-fn opened(s: Registers, rounds: &[u32; 256]) -> Session
+// The IV handed to begin, as the session carries it.
+fn carried(iv: &[u8]) -> [u8; 16]
+    requires { ⌜ length (now iv) ≡ 16 ⌝ }
+    ensures { λ r. ⌜ r ≡ now (iv .entry) ⌝ }
+{
+    let mut r = [0u8; 16];
+    let mut i: usize = 0;
+    while i < 16 {
+        r[i] = iv[i];
+        i += 1;
+    }
+    r
+}
+
+// The session that an accepted begin gives, from the registers of its start and its IV: H and the end pad are drawn.
+fn opened(s: Registers, iv: [u8; 16], rounds: &[u32; 256]) -> Session
     requires { ⌜ Holds wide (now rounds) ⌝ }
-    ensures { λ r. ⌜ sessionOf r ≡ begun-from (record { registers = registersOf s; count = 0 }) ⌝ }
+    ensures { λ r. ⌜ sessionOf r ≡ begun-from (record { registers = registersOf s; count = 0 }) iv ⌝ }
 {
     let mut two = [0u8; 32];
     let registers = lanes::batch(s, rounds, &mut two, 0, 2);
@@ -96,6 +115,7 @@ fn opened(s: Registers, rounds: &[u32; 256]) -> Session
         pad: pad,
         current: pad,
         held: digest::fresh(ghash::zero()),
+        iv: iv,
     }
 }
 
@@ -257,14 +277,16 @@ fn tag(s: Session) -> [u8; 16]
     words::to_bytes(lent::tag_from(s, s.text, y, &table))
 }
 
-// Gives the tag and ends the session: every call after it gives 7. Refused: 7.
+// Gives the tag and the IV, and ends the session: every call after it gives 7. Refused: 7.
 pub fn finish(s: Session) -> Finished
-    ensures { λ r. ⌜ Finishes (finish-call (sessionOf s)) r ⌝ }
+    ensures { λ r. ⌜ finishedOf r ≡ finish-call (sessionOf s) ⌝ }
 {
+    let v = s.iv;
     if 1 < s.phase {
         return Finished {
             answer: scope::OUT_OF_PHASE,
             tag: [0; 16],
+            iv: [0; 16],
             session: s,
         };
     }
@@ -274,6 +296,7 @@ pub fn finish(s: Session) -> Finished
     Finished {
         answer: scope::ACCEPTED,
         tag: t,
+        iv: v,
         session: r,
     }
 }

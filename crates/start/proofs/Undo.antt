@@ -10,11 +10,13 @@ use Rattle.words.proofs.Rows.{row-take, row-drop, row-append, below-test, zeros
 use Rattle.cipher.specs.Registers.{Registers, IsRegisters}
 use Rattle.cipher.specs.Step.{z, step}
 use Rattle.cipher.specs.Back.{back, z-before}
+use Rattle.cipher.specs.Run.{forward, moves}
 use Rattle.cipher.specs.declared.Registers as machine
 use Rattle.cipher.specs.declared.Before.{Before}
 use Rattle.cipher.specs.Machine.{registersOf}
 use Rattle.cipher.specs.Inner.{Precedes}
 use Rattle.cipher.proofs.Inverse.{z-block, step-good, back-good, back-step, step-back, z-before-step, z-before-is}
+use Rattle.cipher.proofs.Moves.{moves-good}
 use Rattle.start.specs.Start.{Mode, Mode.plain, Mode.sealed, mode-cells, load, into-a, into-r1, initial, initials, start}
 use Rattle.start.specs.Trace.{uninitial, uninitials, loaded}
 use Rattle.start.proofs.Mixing.{words-row, into-a-good, into-a-twice, into-r1-good, into-r1-twice}
@@ -115,6 +117,10 @@ module _ (key : List ℕ) (k : Row 32 256 key) where
       let g15 = initials-good 15 (load key iv m) (load-good iv m v) in
       let k15 = into-r1-good (take 16 key) low (initials 15 (load key iv m)) g15 in
       into-r1-good (drop 16 key) high _ (initial-good _ k15)
+
+  -- and however many blocks are drawn from it
+  pub drawn-good : (iv : List ℕ) (m : Mode) → IsBlock iv → (n : ℕ) → IsRegisters (moves forward n (start key iv m))
+  drawn-good iv m v n = moves-good forward n (start key iv m) (start-good iv m v)
 
   pub loaded-start : (iv : List ℕ) (m : Mode) → IsBlock iv → loaded key (start key iv m) ≡ load key iv m
   unfolding start loaded

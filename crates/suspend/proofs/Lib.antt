@@ -1,3 +1,4 @@
 pub mod Suspending
 pub mod Resuming
 pub mod RoundTrip
+pub mod Leading

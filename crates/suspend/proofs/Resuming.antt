@@ -13,11 +13,10 @@ use Rattle.cipher.specs.Registers.{Registers}
 use Rattle.cipher.specs.Back.{z-before}
 use Rattle.cipher.specs.Run.{forward, move, moves}
 use Rattle.cipher.proofs.Inverse.{z-before-step}
-use Rattle.cipher.proofs.Moves.{moves-good}
 use Rattle.start.specs.Start.{Mode.plain, Mode.sealed, start, sealed-keystream}
 use Rattle.start.specs.Leads.{LeadsTo, Traced, Traced.origin, Traced.refused, Traceable, Traces}
 use Rattle.start.specs.Trace.{trace}
-use Rattle.start.proofs.Undo.{start-good}
+use Rattle.start.proofs.Undo.{drawn-good}
 use Rattle.start.proofs.Tracing.{traces}
 use Rattle.ghash.specs.Hash.{ceil16}
 use Rattle.session.specs.Session.{drawn-at}
@@ -36,7 +35,7 @@ last-drawn key iv k t l =
     let n : ℕ = 1 + ceil16 t in
     let e : drawn-at t ≡ suc n = omega arith in
     ap z-before (sym (l .arrives) ∙ ap (λ (i : ℕ). moves forward i (start key iv sealed)) e)
-    ∙ z-before-step (moves forward n (start key iv sealed)) (moves-good forward n (start key iv sealed) (start-good key k iv sealed (l .iv-block)))
+    ∙ z-before-step (moves forward n (start key iv sealed)) (drawn-good key k iv sealed (l .iv-block) n)
 
 module _ (key b : List ℕ) where
   -- ---- 1 and 8

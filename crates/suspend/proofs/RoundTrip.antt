@@ -32,6 +32,7 @@ pub record Led (key iv : List ℕ) (s : Session) : Type 0 where
   pub h-led : s .h ≡ z (start key iv sealed)
   pub pad-led : s .pad ≡ z (moves forward 1 (start key iv sealed))
   pub current-led : s .current ≡ z (moves forward (1 + ceil16 (s .text)) (start key iv sealed))
+  pub iv-led : s .iv ≡ iv
 
 pub suspend-session : (s : Session) (out : List ℕ) → suspend-call s out .session ≡ s
 unfolding suspend-call
@@ -63,12 +64,12 @@ module _ (s : Session) (f : Fine (suspended-of s)) where
 
 module _ (key iv : List ℕ) (k : Row 32 256 key) (v : IsBlock iv) (s : Session) (l : Led key iv s) where
   -- the count that the block says is the session's own
-  same-state : state-of (suspended-of s) ≡ s .state
+  pub same-state : state-of (suspended-of s) ≡ s .state
   same-state =
       let e : drawn-at (s .text) ≡ s .state .count = sym (ap (λ (t : State). t .count) (l .state-led) ∙ zero-add (drawn-at (s .text))) in
       λ i. record { registers = s .state .registers; count = e i }
 
-  traced : trace (state-of (suspended-of s)) key ≡ origin iv sealed
+  pub traced : trace (state-of (suspended-of s)) key ≡ origin iv sealed
   traced =
       traces (state-of (suspended-of s)) (l .fine .registers-good) key (k .below)
       .found iv sealed .1 ((k .long, omega (arith, l .fine .text-fits)), record { iv-block = v; arrives = sym (ap (λ (t : State). t .registers) (l .state-led)) })
@@ -85,6 +86,7 @@ module _ (key iv : List ℕ) (k : Row 32 256 key) (v : IsBlock iv) (s : Session)
         pad = sym (l .pad-led) i;
         current = sym (l .current-led) i;
         sum = s .sum;
+        iv = sym (l .iv-led) i;
       }
 
   origin-found : by-origin key (suspended-of s) (origin iv sealed) ≡ record { number = 0; iv = iv; session = s }

@@ -52,7 +52,8 @@ abbrev pub not-resumed : ℕ → Resumed
 not-resumed n = record { number = n; iv = zeros; session = no-session }
 
 -- the session of what a block says, under the IV that leads to its registers: "H, the end pad and the current keystream block come from walking
--- back. The hash so far and bytes 144-159 are taken as stored". The current block is the one drawn last, by its number in the keystream
+-- back. The hash so far and bytes 144-159 are taken as stored". The current block is the one drawn last, by its number in the keystream; the IV is carried on
+-- (document 02, S-5)
 unfoldable pub revived : (key iv : List ℕ) → Suspended → Session
 revived key iv k =
     record {
@@ -64,6 +65,7 @@ revived key iv k =
       pad = sealed-keystream key iv 1;
       current = sealed-keystream key iv (1 + ceil16 (k .text));
       sum = k .sum;
+      iv = iv;
     }
 
 -- a key of 32 bytes, and a block that obeys the layout rules: neither 1 nor 8

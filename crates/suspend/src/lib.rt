@@ -98,8 +98,8 @@ pub fn state_of(k: Suspended) -> State
     }
 }
 
-// The session of what a block says, under the IV that leads to its state: H and the end pad are those of a session begun under it, and the current
-// block is that of the step before.
+// The session of what a block says, under the IV that leads to its state: H, the end pad and the IV are those of a session begun under it, and the
+// current block is that of the step before.
 fn revived(key: &[u8], iv: [u8; 16], k: Suspended, state: State, inverse: &[u8; 256]) -> Session
     requires { ⌜ (length (now key) ≡ 32) × (stateOf state ≡ Calls.state-of (suspendedOf k)) × LeadsToState (now key) iv sealed (stateOf state) × Holds unsub (now inverse) ⌝ }
     ensures { λ r. ⌜ sessionOf r ≡ Calls.revived (now (key .entry)) iv (suspendedOf k) ⌝ }
@@ -109,6 +109,7 @@ fn revived(key: &[u8], iv: [u8; 16], k: Suspended, state: State, inverse: &[u8; 
     let first = begun.session;
     let h = first.h;
     let pad = first.pad;
+    let carried = first.iv;
     let registers = state.registers;
     let before = cipher::z_before(registers, inverse);
     let current = before.z;
@@ -121,6 +122,7 @@ fn revived(key: &[u8], iv: [u8; 16], k: Suspended, state: State, inverse: &[u8; 
         pad: pad,
         current: current,
         held: held,
+        iv: carried,
     }
 }
 

@@ -28,7 +28,7 @@ module _ {r n : ℕ} (e : r ≡ n) where
   unwritten k v out h = refused (v ++ drop k out) out h
 
   pub leaves-all : (g : Session) (s : List ℕ) → ¬ (r ≡ 0) → Leaves n g s s
-  leaves-all g s h = record { bytes = unwritten 224 (session-bytes g) s h; lists = refused g (session-in s) h }
+  leaves-all g s h = record { bytes = unwritten 240 (session-bytes g) s h; lists = refused g (session-in s) h }
 
   pub state-leaves-all : (g : State) (s : List ℕ) → ¬ (r ≡ 0) → LeavesState n g s s
   state-leaves-all g s h = record { bytes = unwritten 120 (state-bytes g) s h; lists = refused g (state-in s) h }
@@ -40,7 +40,7 @@ module _ {n : ℕ} (e : 0 ≡ n) where
   pub leaves-stored : (g g′ : Session) (s after : List ℕ) → g ≡ g′ → Leaves 0 g s after → Leaves n g′ s after
   leaves-stored g g′ s after f l =
       record {
-        bytes = l .bytes ∙ ap (λ (u : Session). session-bytes u ++ drop 224 s) f ∙ accepted (session-bytes g′ ++ drop 224 s) s;
+        bytes = l .bytes ∙ ap (λ (u : Session). session-bytes u ++ drop 240 s) f ∙ accepted (session-bytes g′ ++ drop 240 s) s;
         lists = l .lists ∙ f ∙ accepted g′ (session-in s);
       }
 
@@ -105,8 +105,8 @@ module _ (s : List ℕ) {r : Bool} (e : r ≡ is-session s) where
   pub torn : (later : ℕ) → not r ≡ true → 8 ≡ whole s later
   torn later h = rw (← e, h)
 
-  pub long : not r ≡ false → length s ≡ 224
-  long h = eqb-true (length s) 224 (sym e ∙ not-false r h)
+  pub long : not r ≡ false → length s ≡ 240
+  long h = eqb-true (length s) 240 (sym e ∙ not-false r h)
 
-pub sound : (s : List ℕ) (later : ℕ) → length s ≡ 224 → later ≡ whole s later
-sound s later h = rw (eq-eqb (length s) 224 h)
+pub sound : (s : List ℕ) (later : ℕ) → length s ≡ 240 → later ≡ whole s later
+sound s later h = rw (eq-eqb (length s) 240 h)

@@ -20,16 +20,16 @@ use Rattle.tulvekas.proofs.Answering.{granted-again, below-refuses, bel
 module _ (key iv s : List ℕ) {n : ℕ} (e : n ≡ start-number key iv) where
   pub begin-refused : ¬ (n ≡ 0) → n ≡ begin-answer key iv s
   unfolding begin-answer begin-call
-  begin-refused = then-refused 224 s e
+  begin-refused = then-refused 240 s e
 
   module _ (z : n ≡ 0) where
-    pub begin-short : length s < 224 → 4 ≡ begin-answer key iv s
+    pub begin-short : length s < 240 → 4 ≡ begin-answer key iv s
     unfolding begin-answer begin-call
-    begin-short = then-short 224 s e z
+    begin-short = then-short 240 s e z
 
-    pub begin-right : 224 ≤ length s → 0 ≡ begin-answer key iv s
+    pub begin-right : 240 ≤ length s → 0 ≡ begin-answer key iv s
     unfolding begin-answer begin-call
-    begin-right = then-fits 224 s e z
+    begin-right = then-fits 240 s e z
 
 -- a refused call leaves the output: said once, or twice
 pub text-again : (v : Session) (p out : List ℕ) → text-call v p out .out ≡ granted (text-call v p out .number) (text-call v p out .out) out
@@ -40,9 +40,9 @@ pub suspend-again : (v : Session) (b : List ℕ) → suspend-call v b .out ≡ g
 unfolding suspend-call
 suspend-again v b = granted-again (suspend-number v b) (block-of (suspended-of v) ++ drop 512 b) b
 
--- ---- calls that read a session: u is the one that its 224 bytes list
+-- ---- calls that read a session: u is the one that its 240 bytes list
 
-module _ (s : List ℕ) (long : length s ≡ 224) {u : Session} (e : u ≡ session-in s) where
+module _ (s : List ℕ) (long : length s ≡ 240) {u : Session} (e : u ≡ session-in s) where
   -- the call below
   module _ (f : Session → Given) where
     pub below-number : f u .number ≡ whole s (f (session-in s) .number)
@@ -56,43 +56,48 @@ module _ (s : List ℕ) (long : length s ≡ 224) {u : Session} (e : u ≡ sessi
     below-out out h =
         ap (λ (v : Session). f v .out) e ∙ h ∙ ap (λ (n : ℕ). granted n (f (session-in s) .out) out) (sound s (f (session-in s) .number) long)
 
-  finish-below : (tag : List ℕ) → next (finish-call u .number) (room 16 tag 0) ≡ finish-answer s tag
-  unfolding finish-answer
-  finish-below tag =
-      ap (λ (v : Session). next (finish-call v .number) (room 16 tag 0)) e ∙ sound s (next (finish-call (session-in s) .number) (room 16 tag 0)) long
+  module _ (tag iv : List ℕ) where
+    finish-below : next (finish-call u .number) (room 16 tag (room 16 iv 0)) ≡ finish-answer s tag iv
+    unfolding finish-answer
+    finish-below =
+        ap (λ (v : Session). next (finish-call v .number) (room 16 tag (room 16 iv 0))) e
+        ∙ sound s (next (finish-call (session-in s) .number) (room 16 tag (room 16 iv 0))) long
 
-  pub finish-ended : (tag : List ℕ) → 2 ≤ u .phase → 7 ≡ finish-answer s tag
-  unfolding finish-call
-  finish-ended tag h = ap (λ (n : ℕ). next n (room 16 tag 0)) (sym (finish-late u h)) ∙ finish-below tag
-
-  module _ (tag : List ℕ) (h : u .phase < 2) where
-    finish-room : room 16 tag 0 ≡ finish-answer s tag
+    pub finish-ended : 2 ≤ u .phase → 7 ≡ finish-answer s tag iv
     unfolding finish-call
-    finish-room = ap (λ (n : ℕ). next n (room 16 tag 0)) (sym (finish-due u h)) ∙ finish-below tag
+    finish-ended h = ap (λ (n : ℕ). next n (room 16 tag (room 16 iv 0))) (sym (finish-late u h)) ∙ finish-below
 
-    pub finish-short : length tag < 16 → 4 ≡ finish-answer s tag
-    finish-short k = short 16 tag 0 k ∙ finish-room
+    module _ (h : u .phase < 2) where
+      finish-room : room 16 tag (room 16 iv 0) ≡ finish-answer s tag iv
+      unfolding finish-call
+      finish-room = ap (λ (n : ℕ). next n (room 16 tag (room 16 iv 0))) (sym (finish-due u h)) ∙ finish-below
 
-    pub finish-right : 16 ≤ length tag → 0 ≡ finish-answer s tag
-    finish-right k = fits 16 tag 0 k ∙ finish-room
+      pub finish-short : length tag < 16 → 4 ≡ finish-answer s tag iv
+      finish-short k = short 16 tag (room 16 iv 0) k ∙ finish-room
+
+      pub finish-short-iv : 16 ≤ length tag → length iv < 16 → 4 ≡ finish-answer s tag iv
+      finish-short-iv k m = short 16 iv 0 m ∙ fits 16 tag (room 16 iv 0) k ∙ finish-room
+
+      pub finish-right : 16 ≤ length tag → 16 ≤ length iv → 0 ≡ finish-answer s tag iv
+      finish-right k m = fits 16 iv 0 m ∙ fits 16 tag (room 16 iv 0) k ∙ finish-room
 
 -- ---- resume
 
 module _ (key b s iv : List ℕ) {n : ℕ} (e : n ≡ resume-call key b .number) where
   pub resume-refused : ¬ (n ≡ 0) → n ≡ resume-answer key b s iv
   unfolding resume-answer
-  resume-refused h = e ∙ below-refuses (resume-call key b .number) (room 224 s (room 16 iv 0)) (λ z. h (e ∙ z))
+  resume-refused h = e ∙ below-refuses (resume-call key b .number) (room 240 s (room 16 iv 0)) (λ z. h (e ∙ z))
 
   module _ (z : n ≡ 0) where
-    resume-room : room 224 s (room 16 iv 0) ≡ resume-answer key b s iv
+    resume-room : room 240 s (room 16 iv 0) ≡ resume-answer key b s iv
     unfolding resume-answer
-    resume-room = below-accepts (resume-call key b .number) (room 224 s (room 16 iv 0)) (sym z ∙ e)
+    resume-room = below-accepts (resume-call key b .number) (room 240 s (room 16 iv 0)) (sym z ∙ e)
 
-    pub resume-short : length s < 224 → 4 ≡ resume-answer key b s iv
-    resume-short h = short 224 s (room 16 iv 0) h ∙ resume-room
+    pub resume-short : length s < 240 → 4 ≡ resume-answer key b s iv
+    resume-short h = short 240 s (room 16 iv 0) h ∙ resume-room
 
-    pub resume-short-iv : 224 ≤ length s → length iv < 16 → 4 ≡ resume-answer key b s iv
-    resume-short-iv h k = short 16 iv 0 k ∙ fits 224 s (room 16 iv 0) h ∙ resume-room
+    pub resume-short-iv : 240 ≤ length s → length iv < 16 → 4 ≡ resume-answer key b s iv
+    resume-short-iv h k = short 16 iv 0 k ∙ fits 240 s (room 16 iv 0) h ∙ resume-room
 
-    pub resume-right : 224 ≤ length s → 16 ≤ length iv → 0 ≡ resume-answer key b s iv
-    resume-right h k = fits 16 iv 0 k ∙ fits 224 s (room 16 iv 0) h ∙ resume-room
+    pub resume-right : 240 ≤ length s → 16 ≤ length iv → 0 ≡ resume-answer key b s iv
+    resume-right h k = fits 16 iv 0 k ∙ fits 240 s (room 16 iv 0) h ∙ resume-room

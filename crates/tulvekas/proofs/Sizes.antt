@@ -29,3 +29,4 @@ pub record Sized (s : Session) : Type 0 where
   pub current-block : IsBlock (s .current)
   pub hash-block : IsBlock (s .sum .hash)
   pub pending-block : IsBlock (s .sum .pending)
+  pub iv-block : IsBlock (s .iv)

@@ -1,5 +1,5 @@
--- A session in 224 bytes, as C keeps it between calls: document 01 says what a session keeps ("Tag arithmetic" and "Sessions and parking") and
--- leaves its form open. Numbers are low byte first; the state is its 120 bytes; a block is 16 bytes. H, the end pad and the
+-- A session in 240 bytes, as C keeps it between calls: document 01 says what a session keeps ("Tag arithmetic" and "Sessions and parking"), document 02
+-- adds the IV (S-5), and both leave its form open. Numbers are low byte first; the state is its 120 bytes; a block is 16 bytes. H, the end pad and the
 -- keystream block in use are kept too, so that no call walks back for them. The bytes say nothing but what the session is: one that was suspended
 -- and resumed has the bytes that it had before.
 use Prim.Native.Nat.{ℕ}
@@ -13,7 +13,7 @@ use Rattle.tulvekas.specs.Order.{buffer-after}
 use Rattle.tulvekas.specs.StateBytes.{state-bytes, state-in}
 
 -- 0-7 phase; 8-15 data length; 16-23 text length; 24-143 the state; 144-159 H; 160-175 end pad; 176-191 keystream block drawn last;
--- 192-207 hash so far; 208-223 bytes not yet hashed
+-- 192-207 hash so far; 208-223 bytes not yet hashed; 224-239 the IV
 unfoldable pub session-bytes : Session → List ℕ
 session-bytes s =
     little 8 (s .phase)
@@ -25,6 +25,7 @@ session-bytes s =
     ++ s .current
     ++ s .sum .hash
     ++ s .sum .pending
+    ++ s .iv
 
 -- the session that bytes list. A phase is one byte, and bytes 1 to 7 are not read
 unfoldable pub session-in : List ℕ → Session
@@ -38,9 +39,10 @@ session-in b =
       pad = part 160 16 b;
       current = part 176 16 b;
       sum = record { hash = part 192 16 b; pending = part 208 16 b };
+      iv = part 224 16 b;
     }
 
 -- what a call that answers n and gives the session g leaves in a lent session: its bytes, and the session that they then list
 pub record Leaves (n : ℕ) (g : Session) (session after : List ℕ) : Type 0 where
-  pub bytes : after ≡ buffer-after n 224 (session-bytes g) session
+  pub bytes : after ≡ buffer-after n 240 (session-bytes g) session
   pub lists : session-in after ≡ granted n g (session-in session)

@@ -1,4 +1,4 @@
--- The calls of a session as C makes them, suspend and resume with them (document 01, "Sessions and parking": park and take up), on sessions in 224 bytes. For each:
+-- The calls of a session as C makes them, suspend and resume with them (document 01, "Sessions and parking": park and take up), on sessions in 240 bytes. For each:
 -- the number that it answers, which is that of the call below, with 8, first of all, for a session of another length, and 4, last, for a buffer
 -- that is too short; what it leaves in a session that it was lent to write; and what stands in its output. A refusal changes no byte.
 use Prim.Native.Nat.{ℕ}
@@ -13,9 +13,9 @@ use Rattle.suspend.specs.Walk.{resume-call}
 use Rattle.tulvekas.specs.Order.{next, room, buffer-after}
 use Rattle.tulvekas.specs.SessionBytes.{session-in, Leaves}
 
--- a session that is read is 224 bytes
+-- a session that is read is 240 bytes
 abbrev pub is-session : (session : List ℕ) → Bool
-is-session s = eqb (length s) 224
+is-session s = eqb (length s) 240
 
 abbrev pub whole : (session : List ℕ) → ℕ → ℕ
 whole s later = refuse (not (is-session s)) bad-block later
@@ -23,7 +23,7 @@ whole s later = refuse (not (is-session s)) bad-block later
 -- ---- begin: 1, 2, 4
 
 unfoldable pub begin-answer : (key iv session : List ℕ) → ℕ
-begin-answer key iv s = next (begin-call key iv .number) (room 224 s 0)
+begin-answer key iv s = next (begin-call key iv .number) (room 240 s 0)
 
 abbrev pub begin-leaves : (key iv session after : List ℕ) → Type 0
 begin-leaves key iv s after = Leaves (begin-answer key iv s) (begin-call key iv .session) s after
@@ -47,16 +47,19 @@ text-leaves s p out after = Leaves (text-answer s p out) (text-call (session-in 
 abbrev pub text-writes : (session piece out : List ℕ) → List ℕ
 text-writes s p out = granted (text-answer s p out) (text-call (session-in s) p out .out) out
 
--- ---- finish: 8, 7, 4
+-- ---- finish: 8, 7, 4 for either buffer
 
-unfoldable pub finish-answer : (session tag : List ℕ) → ℕ
-finish-answer s tag = whole s (next (finish-call (session-in s) .number) (room 16 tag 0))
+unfoldable pub finish-answer : (session tag iv : List ℕ) → ℕ
+finish-answer s tag iv = whole s (next (finish-call (session-in s) .number) (room 16 tag (room 16 iv 0)))
 
-abbrev pub finish-leaves : (session tag after : List ℕ) → Type 0
-finish-leaves s tag after = Leaves (finish-answer s tag) (finish-call (session-in s) .session) s after
+abbrev pub finish-leaves : (session tag iv after : List ℕ) → Type 0
+finish-leaves s tag iv after = Leaves (finish-answer s tag iv) (finish-call (session-in s) .session) s after
 
-abbrev pub finish-writes : (session tag : List ℕ) → List ℕ
-finish-writes s tag = buffer-after (finish-answer s tag) 16 (finish-call (session-in s) .out) tag
+abbrev pub finish-writes-tag : (session tag iv : List ℕ) → List ℕ
+finish-writes-tag s tag iv = buffer-after (finish-answer s tag iv) 16 (finish-call (session-in s) .tag) tag
+
+abbrev pub finish-writes-iv : (session tag iv : List ℕ) → List ℕ
+finish-writes-iv s tag iv = buffer-after (finish-answer s tag iv) 16 (finish-call (session-in s) .iv) iv
 
 -- ---- suspend: 8, 7, 4. The session is only read
 
@@ -69,7 +72,7 @@ suspend-writes s b = granted (suspend-answer s b) (suspend-call (session-in s) b
 -- ---- resume: 1, 8, 6, 4 for either buffer
 
 unfoldable pub resume-answer : (key block session iv : List ℕ) → ℕ
-resume-answer key b s iv = next (resume-call key b .number) (room 224 s (room 16 iv 0))
+resume-answer key b s iv = next (resume-call key b .number) (room 240 s (room 16 iv 0))
 
 abbrev pub resume-leaves : (key block session iv after : List ℕ) → Type 0
 resume-leaves key b s iv after = Leaves (resume-answer key b s iv) (resume-call key b .session) s after

@@ -1,10 +1,10 @@
 // The calls of documents 01 and 02 for C: numbers and lent bytes only. A slice is a pointer and a length there. Each call answers 0, or the number of the
 // refusal, which changes no lent byte; bytes behind what is written stay. Nothing is kept between calls but what the caller was handed: a
-// session is 224 lent bytes, a state 120. Rust's rule for references holds for C as well: a buffer that a call writes overlaps no other buffer of that call.
+// session is 240 lent bytes, a state 120. Rust's rule for references holds for C as well: a buffer that a call writes overlaps no other buffer of that call.
 ghost use mathlib.Core.Path.{_≡_};
 ghost use mathlib.Core.List.{List, _++_};
 ghost use Prim.Native.Nat.{ℕ, _+_, _≤_};
-ghost use lib.ListN.{length, drop};
+ghost use lib.ListN.{length, take, drop};
 ghost use lib.Seq.{sets};
 ghost use Rattle.scope.specs.Refusals.{short-output};
 ghost use Rattle.words.specs.Bytes.{little, part};
@@ -25,7 +25,7 @@ ghost use Rattle.tulvekas.specs.StateBytes.{state-bytes, state-in, Leave
 ghost use Rattle.tulvekas.specs.SessionBytes.{session-in, Leaves};
 ghost use Rattle.tulvekas.specs.Pages.{seal-answer, seal-writes, seal-writes-tag};
 ghost use Rattle.tulvekas.specs.Files.{file-open-answer, file-open-writes, file-open-length};
-ghost use Rattle.tulvekas.specs.Sessions.{is-session, begin-answer, begin-leaves, data-answer, data-leaves, text-answer, text-leaves, text-writes, finish-answer, finish-leaves, finish-writes, suspend-answer, suspend-writes, resume-answer, resume-leaves, resume-writes};
+ghost use Rattle.tulvekas.specs.Sessions.{is-session, begin-answer, begin-leaves, data-answer, data-leaves, text-answer, text-leaves, text-writes, finish-answer, finish-leaves, finish-writes-tag, finish-writes-iv, suspend-answer, suspend-writes, resume-answer, resume-leaves, resume-writes};
 ghost use Rattle.tulvekas.specs.Cipher.{mode-named, keystream-answer, keystream-writes, start-answer, start-leaves, run-answer, run-leaves, run-writes, state-of-answer, state-of-leaves, trace-of-bytes, mode-byte, trace-answer, trace-iv, trace-sealed};
 ghost use Rattle.tulvekas.specs.Dates.{reply-answer, reply-writes, date-bytes, date-reply, day-reply, kept-reply};
 ghost use Rattle.tulvekas.specs.Inner.{FitsBytes};
@@ -48,7 +48,7 @@ const IV_BYTES: usize = 16;
 
 const TAG_BYTES: usize = 16;
 
-const SESSION_BYTES: usize = 224;
+const SESSION_BYTES: usize = 240;
 
 const STATE_BYTES: usize = 120;
 
@@ -58,12 +58,12 @@ const DATE_BYTES: usize = 4;
 
 const DAY_BYTES: usize = 8;
 
-// Sixteen bytes to the front of a buffer.
-fn put_block(out: &mut [u8], b: [u8; 16])
-    requires { ⌜ 16 ≤ length (now out) ⌝ }
-    ensures { λ _. ⌜ now (out .exit) ≡ b ++ drop 16 (now (out .entry)) ⌝ }
+// Sixteen bytes at a place of a buffer.
+fn put_block(out: &mut [u8], at: usize, b: [u8; 16])
+    requires { ⌜ at + 16 ≤ length (now out) ⌝ }
+    ensures { λ _. ⌜ now (out .exit) ≡ take at (now (out .entry)) ++ b ++ drop (at + 16) (now (out .entry)) ⌝ }
 {
-    words::store(out, 0, words::load(&b, 0));
+    words::store(out, at, words::load(&b, 0));
 }
 
 // ---- whole pages
@@ -105,7 +105,7 @@ pub extern "C" fn tulvekas_seal(
         return n;
     }
     let t = p.tag;
-    put_block(tag, t);
+    put_block(tag, 0, t);
     scope::ACCEPTED
 }
 
@@ -218,7 +218,7 @@ fn is_session(b: &[u8]) -> bool
 
 // H, the end pad and the keystream block in use, at their place.
 fn put_drawn(out: &mut [u8], h: Element, pad: Block, current: Block)
-    requires { ⌜ 224 ≤ length (now out) ⌝ }
+    requires { ⌜ 240 ≤ length (now out) ⌝ }
     ensures { λ _. ⌜ now (out .exit) ≡ sets (now (out .entry)) 144 (bytesOfElement h ++ bytesOf pad ++ bytesOf current) ⌝ }
 {
     words::store(out, 144, ghash::to_block(h));
@@ -228,7 +228,7 @@ fn put_drawn(out: &mut [u8], h: Element, pad: Block, current: Block)
 
 // A session's bytes to the front of a buffer.
 fn store_session(out: &mut [u8], s: Session)
-    requires { ⌜ 224 ≤ length (now out) ⌝ }
+    requires { ⌜ 240 ≤ length (now out) ⌝ }
     ensures { λ _. ⌜ Leaves 0 (sessionOf s) (now (out .entry)) (now (out .exit)) ⌝ }
 {
     let state = s.state;
@@ -236,17 +236,19 @@ fn store_session(out: &mut [u8], s: Session)
     let pad = s.pad;
     let current = s.current;
     let held = s.held;
+    let iv = s.iv;
     fields::put(out, 0, 8, s.phase as u64);
     fields::put(out, 8, 8, s.ad);
     fields::put(out, 16, 8, s.text);
     put_state(out, 24, state);
     put_drawn(out, h, pad, current);
     suspended::put_held(out, 192, held);
+    put_block(out, 224, iv);
 }
 
 // And the session that bytes list, whatever they are.
 fn load_session(b: &[u8]) -> Session
-    requires { ⌜ length (now b) ≡ 224 ⌝ }
+    requires { ⌜ length (now b) ≡ 240 ⌝ }
     ensures { λ r. ⌜ sessionOf r ≡ session-in (now (b .entry)) ⌝ }
 {
     let phase = b[0];
@@ -257,6 +259,7 @@ fn load_session(b: &[u8]) -> Session
     let pad = words::load(b, 160);
     let current = words::load(b, 176);
     let held = suspended::get_held(b, 192);
+    let iv = words::to_bytes(words::load(b, 224));
     Session {
         phase: phase,
         ad: ad,
@@ -266,12 +269,13 @@ fn load_session(b: &[u8]) -> Session
         pad: pad,
         current: current,
         held: held,
+        iv: iv,
     }
 }
 
 // ---- sealing by pieces
 
-// Begins a session, in the front 224 bytes of the buffer. Refused: 1, 2, 4.
+// Begins a session, in the front 240 bytes of the buffer. Refused: 1, 2, 4.
 #[no_mangle]
 pub extern "C" fn tulvekas_begin(key: &[u8], iv: &[u8], session: &mut [u8]) -> u64
     ensures answer { λ r. ⌜ r ≡ begin-answer (now (key .entry)) (now (iv .entry)) (now (session .entry)) ⌝ }
@@ -290,7 +294,7 @@ pub extern "C" fn tulvekas_begin(key: &[u8], iv: &[u8], session: &mut [u8]) -> u
     scope::ACCEPTED
 }
 
-// Takes a piece of associated data. Refused: 8 for a session that is not 224 bytes, 7, 3.
+// Takes a piece of associated data. Refused: 8 for a session that is not 240 bytes, 7, 3.
 #[no_mangle]
 pub extern "C" fn tulvekas_data(session: &mut [u8], piece: &[u8]) -> u64
     ensures answer { λ r. ⌜ r ≡ data-answer (now (session .entry)) (now (piece .entry)) ⌝ }
@@ -309,7 +313,7 @@ pub extern "C" fn tulvekas_data(session: &mut [u8], piece: &[u8]) -> u64
     scope::ACCEPTED
 }
 
-// Takes a piece of text and writes as many bytes of ciphertext. Refused: 8 for a session that is not 224 bytes, 7, 3, 9, 4.
+// Takes a piece of text and writes as many bytes of ciphertext. Refused: 8 for a session that is not 240 bytes, 7, 3, 9, 4.
 #[no_mangle]
 pub extern "C" fn tulvekas_text(session: &mut [u8], piece: &[u8], out: &mut [u8]) -> u64
     ensures answer { λ r. ⌜ r ≡ text-answer (now (session .entry)) (now (piece .entry)) (now (out .entry)) ⌝ }
@@ -329,12 +333,13 @@ pub extern "C" fn tulvekas_text(session: &mut [u8], piece: &[u8], out: &mut [u8]
     scope::ACCEPTED
 }
 
-// Ends a session and gives its tag. Refused: 8 for a session that is not 224 bytes, 7, 4.
+// Ends a session and gives its tag and its IV. Refused: 8 for a session that is not 240 bytes, 7, 4 for either buffer.
 #[no_mangle]
-pub extern "C" fn tulvekas_finish(session: &mut [u8], tag: &mut [u8]) -> u64
-    ensures answer { λ r. ⌜ r ≡ finish-answer (now (session .entry)) (now (tag .entry)) ⌝ }
-    ensures session { λ _. ⌜ finish-leaves (now (session .entry)) (now (tag .entry)) (now (session .exit)) ⌝ }
-    ensures tag { λ _. ⌜ now (tag .exit) ≡ finish-writes (now (session .entry)) (now (tag .entry)) ⌝ }
+pub extern "C" fn tulvekas_finish(session: &mut [u8], tag: &mut [u8], iv: &mut [u8]) -> u64
+    ensures answer { λ r. ⌜ r ≡ finish-answer (now (session .entry)) (now (tag .entry)) (now (iv .entry)) ⌝ }
+    ensures session { λ _. ⌜ finish-leaves (now (session .entry)) (now (tag .entry)) (now (iv .entry)) (now (session .exit)) ⌝ }
+    ensures tag { λ _. ⌜ now (tag .exit) ≡ finish-writes-tag (now (session .entry)) (now (tag .entry)) (now (iv .entry)) ⌝ }
+    ensures iv { λ _. ⌜ now (iv .exit) ≡ finish-writes-iv (now (session .entry)) (now (tag .entry)) (now (iv .entry)) ⌝ }
 {
     if !is_session(session) {
         return scope::BAD_BLOCK;
@@ -346,17 +351,22 @@ pub extern "C" fn tulvekas_finish(session: &mut [u8], tag: &mut [u8]) -> u64
     if tag.len() < TAG_BYTES {
         return scope::SHORT_OUTPUT;
     }
+    if iv.len() < IV_BYTES {
+        return scope::SHORT_OUTPUT;
+    }
     let f = session::finish(s);
     let u = f.session;
     let t = f.tag;
+    let v = f.iv;
     store_session(session, u);
-    put_block(tag, t);
+    put_block(tag, 0, t);
+    put_block(iv, 0, v);
     scope::ACCEPTED
 }
 
 // ---- suspend and resume: document 01's park and take up
 
-// Writes a session's block of 512 bytes; the session is only read. Refused: 8 for a session that is not 224 bytes, 7, 4.
+// Writes a session's block of 512 bytes; the session is only read. Refused: 8 for a session that is not 240 bytes, 7, 4.
 #[no_mangle]
 pub extern "C" fn tulvekas_suspend(session: &[u8], block: &mut [u8]) -> u64
     ensures answer { λ r. ⌜ r ≡ suspend-answer (now (session .entry)) (now (block .entry)) ⌝ }
@@ -395,7 +405,7 @@ pub extern "C" fn tulvekas_resume(
     let s = t.session;
     let v = t.iv;
     store_session(session, s);
-    put_block(iv, v);
+    put_block(iv, 0, v);
     scope::ACCEPTED
 }
 
@@ -526,7 +536,7 @@ pub extern "C" fn tulvekas_trace(state: &[u8], key: &[u8], iv: &mut [u8], sealed
             }
             let mode = o.mode;
             let v = suspend::iv_bytes(o.lo, o.hi);
-            put_block(iv, v);
+            put_block(iv, 0, v);
             sealed[0] = mode_number(mode);
             scope::ACCEPTED
         }

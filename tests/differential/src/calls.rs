@@ -13,7 +13,7 @@ use crate::suspended;
 use crate::trace;
 
 /// `TULVEKAS_SESSION_BYTES`.
-pub const SESSION_BYTES: usize = 224;
+pub const SESSION_BYTES: usize = 240;
 /// `TULVEKAS_STATE_BYTES`.
 pub const STATE_BYTES: usize = 120;
 /// `TULVEKAS_LENGTH_BYTES`.
@@ -96,11 +96,13 @@ pub fn text(session: &mut [u8], piece: &[u8], out: &mut [u8]) -> Answer<()> {
 }
 
 /// `tulvekas_finish`: 8, 7, 4.
-pub fn finish(session: &mut [u8], tag: &mut [u8]) -> Answer<()> {
+pub fn finish(session: &mut [u8], tag: &mut [u8], iv: &mut [u8]) -> Answer<()> {
     let mut finished = session_in(session)?;
-    let made = finished.finish()?;
+    let (made, carried) = finished.finish()?;
     room(tag.len(), 16)?;
+    room(iv.len(), 16)?;
     tag[..16].copy_from_slice(&made);
+    iv[..16].copy_from_slice(&carried);
     session.copy_from_slice(&finished.to_bytes());
     Ok(())
 }

@@ -1,4 +1,4 @@
-//! A page by pieces: document 01, "Sessions and parking"; document 02, S-2.
+//! A page by pieces: document 01, "Sessions and parking"; document 02, S-2 and S-5.
 //!
 //! A session may be made up by a caller (see [`Session::from_bytes`]); its numbers are then taken as they stand.
 
@@ -44,6 +44,8 @@ pub struct Session {
     pub(crate) end_pad: Block,
     /// The keystream block drawn last.
     pub(crate) current: Block,
+    /// The IV that begin was handed, or that walking back found at resume.
+    pub(crate) iv: Block,
 }
 
 impl Session {
@@ -54,7 +56,7 @@ impl Session {
         let mut state = State::start(&key, &iv, Mode::Sealed);
         let h = state.step()?;
         let end_pad = state.step()?;
-        Ok(Session { phase: Phase::Data, data: 0, text: 0, state, hash: [0; 16], pending: [0; 16], h, end_pad, current: end_pad })
+        Ok(Session { phase: Phase::Data, data: 0, text: 0, state, hash: [0; 16], pending: [0; 16], h, end_pad, current: end_pad, iv })
     }
 
     /// What the session takes next.
@@ -138,34 +140,34 @@ impl Session {
         Ok(())
     }
 
-    /// Ends the session, of which all but the phase stays, and gives the tag. Refuses 7.
-    pub fn finish(&mut self) -> Result<Block, Refusal> {
+    /// Ends the session, of which all but the phase stays, and gives the tag and the IV. Refuses 7.
+    pub fn finish(&mut self) -> Result<(Block, Block), Refusal> {
         require(self.phase != Phase::Finished, Refusal::OutOfPhase)?;
         let mut last = self.clone();
         last.close();
         last.pad(last.text);
         let hash = update(&last.h, &last.hash, &lengths(last.data, last.text));
         self.phase = Phase::Finished;
-        Ok(xor(&hash, &self.end_pad))
+        Ok((xor(&hash, &self.end_pad), self.iv))
     }
 
-    /// The session in 224 bytes, as C keeps it. The documents leave the form open; it is that of crates/tulvekas/specs/SessionBytes.antt:
+    /// The session in 240 bytes, as C keeps it. The documents leave the form open; it is that of crates/tulvekas/specs/SessionBytes.antt:
     /// 0-7 phase, 8-15 data length, 16-23 text length, 24-143 the state, 144-159 H, 160-175 end pad, 176-191 the keystream block drawn
-    /// last, 192-207 the hash so far, 208-223 the bytes not yet hashed.
-    pub fn to_bytes(&self) -> [u8; 224] {
+    /// last, 192-207 the hash so far, 208-223 the bytes not yet hashed, 224-239 the IV.
+    pub fn to_bytes(&self) -> [u8; 240] {
         let phase: u64 = match self.phase {
             Phase::Data => 0,
             Phase::Text => 1,
             Phase::Finished => 2,
         };
         let numbers = [phase, self.data, self.text].map(u64::to_le_bytes);
-        let drawn = [self.h, self.end_pad, self.current, self.hash, self.pending];
-        let bytes = [&numbers.concat()[..], &self.state.to_bytes(), &drawn.concat()].concat();
+        let blocks = [self.h, self.end_pad, self.current, self.hash, self.pending, self.iv];
+        let bytes = [&numbers.concat()[..], &self.state.to_bytes(), &blocks.concat()].concat();
         bytes.try_into().unwrap()
     }
 
-    /// The session that 224 bytes say, whatever they are. Of the phase byte 0 alone is read; one from 2 on is finished.
-    pub fn from_bytes(bytes: &[u8; 224]) -> Session {
+    /// The session that 240 bytes say, whatever they are. Of the phase byte 0 alone is read; one from 2 on is finished.
+    pub fn from_bytes(bytes: &[u8; 240]) -> Session {
         let number = |at: usize| u64::from_le_bytes(bytes[at..at + 8].try_into().unwrap());
         let block = |at: usize| padded(&bytes[at..at + 16]);
         Session {
@@ -182,6 +184,7 @@ impl Session {
             current: block(176),
             hash: block(192),
             pending: block(208),
+            iv: block(224),
         }
     }
 }

@@ -96,6 +96,7 @@ pub fn resume(key: &[u8], block: &[u8]) -> Result<(Session, Block), Refusal> {
         h: drawn[drawn.len() - 1],
         end_pad: drawn[drawn.len() - 2],
         current: drawn[0],
+        iv,
     };
     Ok((session, iv))
 }

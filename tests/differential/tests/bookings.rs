@@ -126,7 +126,7 @@ fn no_data_and_no_text() {
     state.step().unwrap();
     let end_pad = state.step().unwrap();
     assert_eq!(page::seal(&key, &iv, &[], &[], &mut []), Ok(end_pad));
-    assert_eq!(Session::begin(&key, &iv).unwrap().finish(), Ok(end_pad));
+    assert_eq!(Session::begin(&key, &iv).unwrap().finish(), Ok((end_pad, iv)));
 }
 
 #[test]

@@ -276,7 +276,7 @@ fn page_vectors_by_pieces() {
                     session = again(session);
                 }
                 assert_eq!(cipher, bytes(vector.cipher));
-                assert_eq!(session.finish(), Ok(block(vector.auth)));
+                assert_eq!(session.finish(), Ok((block(vector.auth), block(vector.iv))));
             }
         }
     }

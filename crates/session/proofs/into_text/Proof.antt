@@ -16,6 +16,7 @@ returns c =
       pad = s .pad;
       current = s .current;
       sum = c .fresh .ensures i;
+      iv = s .iv;
     }
 
 pub into-text-spec : {M : Type 1} → statement M

@@ -1,5 +1,6 @@
 -- `session::no_session` meets its contract.
 use mathlib.Core.Path.{ap, _∙_}
+use Rattle.words.specs.Bytes.{zeros}
 use Rattle.digest.specs.Sum.{fresh}
 use borrow.Author.Needs.{needs}
 use Rattle.session.proofs.no_session.Statement.{statement}
@@ -18,6 +19,7 @@ returns c =
       pad = z i;
       current = z i;
       sum = (c .fresh .ensures ∙ ap fresh n) i;
+      iv = zeros;
     }
 
 pub no-session-spec : {M : Type 1} → statement M

@@ -41,6 +41,7 @@ returns c =
       pad = pad i;
       current = pad i;
       sum = (c .fresh .ensures ∙ ap fresh (c .before .zero .ensures)) i;
+      iv = s .args .iv;
     }
 
 pub opened-spec : {M : Type 1} → statement M

@@ -27,7 +27,7 @@ key-row c = record { long = c .before .pre .0; below = known-bytes (now (c .befo
 returns : tie.Need-returns
 unfolding revived moves
 returns c =
-    let b = c .before .before .before .before .before .before in
+    let b = c .before .before .before .before .before .before .before in
     let s = b .before .before .before .before in
     let key = now (s .args .key) in
     let iv = s .args .t2 in
@@ -44,6 +44,7 @@ returns c =
       pad = first i .pad;
       current = current i;
       sum = sumOf (k .held);
+      iv = first i .iv;
     }
 
 pub revived-spec : {M : Type 1} → statement M

@@ -1,5 +1,6 @@
 -- `tulvekas::load_session` meets its contract: each field is read at its place.
 use mathlib.Core.Path.{_∙_}
+use native.Mathlib.Omega.{arith}
 use lib.ListN.{getD}
 use denote.Ref.{now}
 use Rattle.tulvekas.specs.SessionBytes.{session-in}
@@ -10,7 +11,8 @@ use Rattle.tulvekas.proofs.load_session.Tie as tie
 returns : tie.Need-returns
 unfolding session-in
 returns c =
-    let l3 = c .before in
+    let hd = c .before .before in
+    let l3 = hd .before in
     let l2 = l3 .before in
     let f1 = l2 .before in
     let l1 = f1 .before in
@@ -27,7 +29,8 @@ returns c =
       h = h i;
       pad = l2 .load2 .ensures i;
       current = l3 .load3 .ensures i;
-      sum = record { hash = c .get-held .ensures .0 i; pending = c .get-held .ensures .1 i };
+      sum = record { hash = hd .get-held .ensures .0 i; pending = hd .get-held .ensures .1 i };
+      iv = (c .to-bytes .ensures ∙ c .before .load4 .ensures) i;
     }
 
 pub load-session-spec : {M : Type 1} → statement M
@@ -42,5 +45,7 @@ load-session-spec =
     (λ c κs. search needs)
     (λ c κs. search needs)
     (λ c κs. search needs)
+    (λ c κs. search needs)
+    (λ c κs. omega (arith, c .before .before .before .before .before .before .before .before .before .before .pre))
     (λ c κs. search needs)
     returns)

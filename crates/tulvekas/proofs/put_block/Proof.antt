@@ -1,15 +1,16 @@
 -- `tulvekas::put_block` meets its contract: the block is that of all sixteen bytes.
+use Prim.Native.Nat.{ℕ, _+_}
 use mathlib.Core.Path.{_≡_, ap, _∙_}
+use mathlib.Core.List.{_++_}
 use native.Mathlib.Omega.{arith}
-use lib.ListN.{length}
-use lib.Seq.{sets, take-all}
+use lib.ListN.{length, take, drop}
+use lib.Seq.{sets, sets-eq, take-all}
 use denote.Ref.{now}
-use Rattle.words.proofs.Writing.{put-front}
 use borrow.Author.Needs.{needs}
 use Rattle.tulvekas.proofs.put_block.Statement.{statement}
 use Rattle.tulvekas.proofs.put_block.Tie as tie
 
-long : (c : tie.Start) → length (c .args .t2) ≡ 16
+long : (c : tie.Start) → length (c .args .t3) ≡ 16
 long c = search needs
 
 returns : tie.Need-returns
@@ -19,7 +20,10 @@ returns c =
     let a = l .before .before .before .before .args in
     let out = now (a .out) in
     let n = long (l .before .before .before .before) in
-    s .store .ensures ∙ ap (sets out 0) (l .load .ensures ∙ take-all 16 (a .t2) (omega arith)) ∙ put-front out (a .t2) 16 n (l .before .before .before .before .pre)
+    s .store .ensures
+    ∙ ap (sets out (a .at)) (l .load .ensures ∙ take-all 16 (a .t3) (omega arith))
+    ∙ sets-eq (a .t3) out (a .at) (rw n (l .before .before .before .before .pre))
+    ∙ ap (λ (k : ℕ). take (a .at) out ++ a .t3 ++ drop (a .at + k) out) n
 
 pub put-block-spec : {M : Type 1} → statement M
 put-block-spec =

@@ -1,5 +1,6 @@
 -- `tulvekas::store_session` meets its contract: the fields are written one behind the other, and have their sizes by their types.
 use Prim.Native.Nat.{ℕ}
+use native.Mathlib.Omega.{arith}
 use lib.ListN.{getD}
 use denote.Ref.{now}
 use mir.Syntax.{w8, w64}
@@ -8,7 +9,7 @@ use Rattle.words.proofs.Blocks.{bytesOf-block}
 use Rattle.ghash.proofs.Elements.{element-block}
 use Rattle.session.specs.Machine.{sessionOf}
 use Rattle.tulvekas.proofs.Sizes.{every-sized, Sized}
-use Rattle.tulvekas.proofs.SessionLaws.{session-stored}
+use Rattle.tulvekas.proofs.SessionLaws.{room-for-iv, session-stored}
 use borrow.Author.Needs.{needs}
 use Rattle.tulvekas.proofs.store_session.Statement.{statement}
 use Rattle.tulvekas.proofs.store_session.Tie as tie
@@ -20,6 +21,7 @@ sized c =
     let ad : Fits w64 (s .ad) = search needs in
     let text : Fits w64 (s .text) = search needs in
     let pending : (i : ℕ) → Fits w8 (getD (s .held .pending) i 0) = λ i. search needs in
+    let iv : (i : ℕ) → Fits w8 (getD (s .iv) i 0) = λ i. search needs in
     record {
       phase-byte = phase .fits;
       ad-fits = ad .fits;
@@ -30,19 +32,34 @@ sized c =
       current-block = bytesOf-block (s .current);
       hash-block = element-block (s .held .acc);
       pending-block = record { long = search needs; below = λ i. pending i .fits };
+      iv-block = record { long = search needs; below = λ i. iv i .fits };
     }
 
-returns : tie.Need-returns
-returns c =
-    let p6 = c .before .before in
+put-block-requires : tie.Need-put-block-requires
+put-block-requires c κs =
+    let p6 = c .before .before .before in
     let p5 = p6 .before .before .before .before in
     let p4 = p5 .before .before .before .before in
     let p3 = p4 .before .before .before .before in
     let p2 = p3 .before .before .before .before in
     let p1 = p2 .before .before .before .before in
-    let a = p1 .before .before .before .before .before .before .before .before .before in
+    let a = p1 .before .before .before .before .before .before .before .before .before .before in
+    let r = room-for-iv (sessionOf (a .args .s)) (sized a) (now (a .args .out)) (a .pre)
+    (p1 .put .ensures) (p2 .put2 .ensures) (p3 .put3 .ensures) (p4 .put-state .ensures) (p5 .put-drawn .ensures) (p6 .put-held .ensures) in
+    omega (arith, r)
+
+returns : tie.Need-returns
+returns c =
+    let p7 = c .before .before in
+    let p6 = p7 .before .before .before .before in
+    let p5 = p6 .before .before .before .before in
+    let p4 = p5 .before .before .before .before in
+    let p3 = p4 .before .before .before .before in
+    let p2 = p3 .before .before .before .before in
+    let p1 = p2 .before .before .before .before in
+    let a = p1 .before .before .before .before .before .before .before .before .before .before in
     session-stored (sessionOf (a .args .s)) (sized a) (now (a .args .out)) (a .pre)
-    (p1 .put .ensures) (p2 .put2 .ensures) (p3 .put3 .ensures) (p4 .put-state .ensures) (p5 .put-drawn .ensures) (p6 .put-held .ensures)
+    (p1 .put .ensures) (p2 .put2 .ensures) (p3 .put3 .ensures) (p4 .put-state .ensures) (p5 .put-drawn .ensures) (p6 .put-held .ensures) (p7 .put-block .ensures)
 
 pub store-session-spec : {M : Type 1} → statement M
 store-session-spec =
@@ -55,5 +72,6 @@ store-session-spec =
     (λ c κs. search needs)
     (λ c κs. search needs)
     (λ c κs. search needs)
+    put-block-requires
     (λ c. search needs)
     returns)

@@ -36,7 +36,10 @@ fn call(t: &mut Tester, call: Call, session: &mut Session) {
     match call {
         Call::Data => t.data(session, &piece),
         Call::Text => t.text_in(session, SESSION_BYTES, &piece, out_len).0,
-        Call::Finish => t.finish_in(session, SESSION_BYTES, out_len).0,
+        Call::Finish => {
+            let iv_len = if t.random.one_in(8) { t.random.below(16) } else { 16 + t.random.below(20) };
+            t.finish_in(session, SESSION_BYTES, out_len, iv_len).0
+        }
         Call::Suspend => t.suspend_in(session, SESSION_BYTES, out_len).0,
     };
 }
@@ -194,7 +197,7 @@ fn sessions_with_another_count() {
     t.done();
 }
 
-/// 223, 225 and other lengths of random bytes are answered with 8.
+/// 239, 241 and other lengths of random bytes are answered with 8.
 #[test]
 fn sessions_of_other_lengths() {
     let mut t = Tester::new("sessions of other lengths");
@@ -207,7 +210,7 @@ fn sessions_of_other_lengths() {
             let answers = [
                 t.data_in(&mut session, len, &piece),
                 t.text_in(&mut session, len, &piece, 9).0,
-                t.finish_in(&mut session, len, 16).0,
+                t.finish_in(&mut session, len, 16, 16).0,
                 t.suspend_in(&session, len, 512).0,
             ];
             for answer in answers {

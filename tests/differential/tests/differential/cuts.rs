@@ -56,9 +56,9 @@ impl Page {
             cipher.extend(made);
             self.pause(t, &session, between);
         }
-        let (answer, tag) = t.finish(&mut session);
+        let (answer, tag, iv) = t.finish(&mut session);
         t.expect("finish", answer, 0);
-        if cipher != self.cipher || tag != self.tag {
+        if cipher != self.cipher || tag != self.tag || iv != self.iv {
             t.fail("finish", format!("cut at {data_cuts:?} and {text_cuts:?}, both give another page than the whole one"));
         }
     }

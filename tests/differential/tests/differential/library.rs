@@ -33,7 +33,7 @@ extern "C" {
     pub fn tulvekas_begin(key: *const u8, key_len: usize, iv: *const u8, iv_len: usize, session: *mut u8, session_len: usize) -> u64;
     pub fn tulvekas_data(session: *mut u8, session_len: usize, piece: *const u8, piece_len: usize) -> u64;
     pub fn tulvekas_text(session: *mut u8, session_len: usize, piece: *const u8, piece_len: usize, out: *mut u8, out_len: usize) -> u64;
-    pub fn tulvekas_finish(session: *mut u8, session_len: usize, tag: *mut u8, tag_len: usize) -> u64;
+    pub fn tulvekas_finish(session: *mut u8, session_len: usize, tag: *mut u8, tag_len: usize, iv: *mut u8, iv_len: usize) -> u64;
     pub fn tulvekas_suspend(session: *const u8, session_len: usize, block: *mut u8, block_len: usize) -> u64;
     pub fn tulvekas_resume(
         key: *const u8,

@@ -277,10 +277,11 @@ fn order_of_finish_and_suspend() {
         let sessions = in_each_phase(&mut t, &key, &iv);
         for session_len in (0..=SESSION_BYTES + 10).chain([300, 512, 1_000]) {
             for (phase, session) in sessions.iter().enumerate() {
-                for tag_len in ROOMS_16 {
+                for (tag_len, iv_len) in ROOMS_16.into_iter().flat_map(|tag_len| ROOMS_16.map(|iv_len| (tag_len, iv_len))) {
                     let mut session = *session;
-                    let answer = t.finish_in(&mut session, session_len, tag_len).0;
-                    t.expect("finish", answer, first(&[(session_len != SESSION_BYTES, 8), (phase > 1, 7), (tag_len < 16, 4)]));
+                    let answer = t.finish_in(&mut session, session_len, tag_len, iv_len).0;
+                    let refusals = [(session_len != SESSION_BYTES, 8), (phase > 1, 7), (tag_len < 16 || iv_len < 16, 4)];
+                    t.expect("finish", answer, first(&refusals));
                     look_at(&mut t, &session);
                 }
                 for block_len in [512, 0, 511, 513, 600] {

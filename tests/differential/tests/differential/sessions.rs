@@ -41,19 +41,24 @@ impl Page {
         answer
     }
 
-    /// Finishes, requires the ciphertext and tag of the whole page, and that each call from then on is late.
+    /// Finishes, requires the ciphertext and tag of the whole page and the IV that it began with, and that each call from then on is late.
     fn finish(mut self, t: &mut Tester) {
         if t.random.one_in(3) {
             let short = t.random.below(16);
-            let answer = t.finish_in(&mut self.session, SESSION_BYTES, short).0;
-            t.expect("finish", answer, 4);
+            for (tag_len, iv_len) in [(short, 16), (16, short), (short, short)] {
+                let answer = t.finish_in(&mut self.session, SESSION_BYTES, tag_len, iv_len).0;
+                t.expect("finish", answer, 4);
+            }
         }
-        let (answer, tag) = t.finish(&mut self.session);
+        let (answer, tag, iv) = t.finish(&mut self.session);
         t.expect("finish", answer, 0);
         let (answer, cipher, whole_tag) = t.seal(&self.key, &self.iv, &self.data, &self.text, self.text.len(), 16);
         t.expect("seal", answer, 0);
         if cipher != self.cipher || whole_tag != tag {
             t.fail("finish", "both give another ciphertext or tag than the whole page has".into());
+        }
+        if iv != self.iv {
+            t.fail("finish", "both give another IV than begin was handed".into());
         }
         let piece_len = t.random.below(40);
         let piece = t.random.bytes(piece_len);

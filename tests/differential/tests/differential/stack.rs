@@ -91,7 +91,7 @@ fn of_a_page(random: &mut Random, data_len: usize, text_len: usize) -> Vec<(&'st
         }
         take("suspend", &|| tulvekas_suspend(s, SESSION_BYTES, b, 512));
         take("resume", &|| tulvekas_resume(k, 32, b, 512, s, SESSION_BYTES, f, 16));
-        take("finish", &|| tulvekas_finish(s, SESSION_BYTES, g, 16));
+        take("finish", &|| tulvekas_finish(s, SESSION_BYTES, g, 16, f, 16));
         take("keystream", &|| tulvekas_keystream(k, 32, v, 16, 1, o, m));
         take("state_of", &|| tulvekas_state_of(b, 512, a, STATE_BYTES));
         take("trace", &|| tulvekas_trace(a, STATE_BYTES, k, 32, f, 16, y, 1));

@@ -1,6 +1,6 @@
 //! Suspended sessions: layouts kept and broken, foreign states, and what is taken as stored.
 
-use crate::tester::{Session, Tester, SESSION_BYTES};
+use crate::tester::{Session, Tester, SESSION_BYTES, STATE_BYTES};
 use reference::cipher::{Key, Mode, Registers};
 use reference::suspended::check;
 
@@ -57,15 +57,27 @@ const SHAPES: [(usize, usize, bool); 18] = [
     (2, 4_096, true),
 ];
 
-/// Goes on with a session that was resumed, however its hash came about.
-fn go_on(t: &mut Tester, mut session: Session) {
+/// Requires that walking back the session's state, as suspend writes it, gives the IV that it carries.
+fn knows_its_stay(t: &mut Tester, key: &[u8], session: &Session, iv: &[u8]) {
+    let block = t.suspend(session);
+    let (answer, state) = t.state_of(&block);
+    t.expect("state_of", answer, 0);
+    t.traced_to(&state[..STATE_BYTES], key, iv, 1);
+}
+
+/// Goes on with a session that was resumed, however its hash came about: it gives the IV that resume gave.
+fn go_on(t: &mut Tester, key: &[u8], mut session: Session, iv: &[u8]) {
     let (data, text) = (t.random.bytes(21), t.random.bytes(37));
     t.suspend(&session);
     t.data(&mut session, &data);
     t.suspend(&session);
     t.text(&mut session, &text);
-    t.suspend(&session);
-    t.finish(&mut session);
+    knows_its_stay(t, key, &session, iv);
+    let (answer, _, given) = t.finish(&mut session);
+    t.expect("finish", answer, 0);
+    if given != iv {
+        t.fail("finish", "both give another IV than resume found".into());
+    }
 }
 
 /// Every single bit of the 512 bytes by itself: the check tells each.
@@ -100,7 +112,7 @@ fn every_byte_changed_and_checked() {
                     continue;
                 }
                 let block = with(&suspended.block, at, &[suspended.block[at] ^ change]);
-                let (answer, session, _) = t.resume(&suspended.key, &block);
+                let (answer, session, iv) = t.resume(&suspended.key, &block);
                 let of_state = t.state_of(&block).0;
                 t.expect("state_of", of_state, if answer == 8 { 8 } else { 0 });
                 match at {
@@ -111,7 +123,7 @@ fn every_byte_changed_and_checked() {
                     _ => {}
                 }
                 if let Some(session) = session {
-                    go_on(&mut t, session);
+                    go_on(&mut t, &suspended.key, session, &iv);
                 }
             }
         }
@@ -230,9 +242,30 @@ fn taken_as_stored() {
                 let data = if closed { t.random.below(65_536) } else { 16 * t.random.below(4_095) + pending };
                 block = with(&block, 4, &(data as u32).to_le_bytes());
             }
-            let (answer, session, _) = t.resume(&key, &block);
+            let (answer, session, iv) = t.resume(&key, &block);
             t.expect("resume", answer, 0);
-            go_on(&mut t, session.unwrap());
+            go_on(&mut t, &key, session.unwrap(), &iv);
+        }
+    }
+    t.done();
+}
+
+/// A block that no session was suspended into, laid out by hand over a start of its own: resume names that start's IV, and the session goes on under it.
+#[test]
+fn written_by_hand() {
+    let mut t = Tester::new("written by hand");
+    for _ in 0..t.rounds(150) {
+        for (data_len, text_len, closed) in SHAPES {
+            let Suspended { key, block } = suspended(&mut t, data_len % 1_000, text_len, closed);
+            let iv = t.random.array::<16>();
+            let mut state = t.start(&key, &iv, 1);
+            t.run(&mut state, 2 + text_len.div_ceil(16) as u64, 0);
+            let (answer, session, found) = t.resume(&key, &with(&block, 16, &state[..112]));
+            t.expect("resume", answer, 0);
+            if found != iv {
+                t.fail("resume", "both find another IV than the start had".into());
+            }
+            go_on(&mut t, &key, session.unwrap(), &iv);
         }
     }
     t.done();
@@ -246,8 +279,8 @@ fn phases_changed() {
         for (data_len, text_len, closed) in SHAPES {
             let Suspended { key, block } = suspended(&mut t, data_len % 1_000, text_len, closed);
             let changed = with(&block, 0, &[block[0] ^ 1]);
-            if let (_, Some(session), _) = t.resume(&key, &changed) {
-                go_on(&mut t, session);
+            if let (_, Some(session), iv) = t.resume(&key, &changed) {
+                go_on(&mut t, &key, session, &iv);
             }
         }
     }

@@ -303,20 +303,23 @@ impl Tester {
         self.text_in(session, SESSION_BYTES, piece, piece.len() + spare)
     }
 
-    pub fn finish_in(&mut self, session: &mut Session, session_len: usize, tag_len: usize) -> (u64, Vec<u8>) {
-        let (mut lent, mut tag) = (self.lend_in("session", session, session_len), self.lend_output("tag", tag_len));
-        let (mut ours, mut our_tag) = (lent.lent().to_vec(), tag.lent().to_vec());
-        let expected = number(&calls::finish(&mut ours, &mut our_tag));
-        let found = unsafe { tulvekas_finish(lent.written(), lent.len(), tag.written(), tag.len()) };
-        self.compare("finish", found, expected, &[(&lent, Left::Bytes(&ours)), (&tag, Left::Bytes(&our_tag))]);
+    /// Gives the written tag and IV.
+    pub fn finish_in(&mut self, session: &mut Session, session_len: usize, tag_len: usize, iv_len: usize) -> (u64, Vec<u8>, Vec<u8>) {
+        let mut lent = self.lend_in("session", session, session_len);
+        let (mut tag, mut iv) = (self.lend_output("tag", tag_len), self.lend_output("iv", iv_len));
+        let (mut ours, mut our_tag, mut our_iv) = (lent.lent().to_vec(), tag.lent().to_vec(), iv.lent().to_vec());
+        let expected = number(&calls::finish(&mut ours, &mut our_tag, &mut our_iv));
+        let found = unsafe { tulvekas_finish(lent.written(), lent.len(), tag.written(), tag.len(), iv.written(), iv.len()) };
+        self.compare("finish", found, expected, &[(&lent, Left::Bytes(&ours)), (&tag, Left::Bytes(&our_tag)), (&iv, Left::Bytes(&our_iv))]);
         moved_on(session, &ours, found);
         our_tag.truncate(16);
-        (found, our_tag)
+        our_iv.truncate(16);
+        (found, our_tag, our_iv)
     }
 
-    pub fn finish(&mut self, session: &mut Session) -> (u64, Vec<u8>) {
-        let spare = if self.random.one_in(2) { 0 } else { self.random.below(40) };
-        self.finish_in(session, SESSION_BYTES, 16 + spare)
+    pub fn finish(&mut self, session: &mut Session) -> (u64, Vec<u8>, Vec<u8>) {
+        let (tag_spare, iv_spare) = if self.random.one_in(2) { (0, 0) } else { (self.random.below(40), self.random.below(40)) };
+        self.finish_in(session, SESSION_BYTES, 16 + tag_spare, 16 + iv_spare)
     }
 
     pub fn suspend_in(&mut self, session: &Session, session_len: usize, block_len: usize) -> (u64, Vec<u8>) {

@@ -91,7 +91,7 @@ fn lengths_over_32_bits() {
         check("begin", tulvekas_begin(k, 32, zeros, WIDE + 16, w, SESSION_BYTES), 2);
         check("data", tulvekas_data(w, WIDE + SESSION_BYTES, a, 19), 8);
         check("text", tulvekas_text(w, WIDE + SESSION_BYTES, x, 53, o, 53), 8);
-        check("finish", tulvekas_finish(w, WIDE + SESSION_BYTES, o, 16), 8);
+        check("finish", tulvekas_finish(w, WIDE + SESSION_BYTES, o, 16, o.add(16), 16), 8);
         check("suspend", tulvekas_suspend(zeros, WIDE + SESSION_BYTES, w, 512), 8);
         check("resume", tulvekas_resume(zeros, WIDE + 32, zeros, 512, w, SESSION_BYTES, o, 16), 1);
         check("resume", tulvekas_resume(k, 32, zeros, WIDE + 512, w, SESSION_BYTES, o, 16), 8);
@@ -167,7 +167,9 @@ fn accepted(t: &mut Tester, written: &mut Zeros, page: [&[u8]; 6]) {
         if moved != started {
             t.fail("run", "forward and back do not return the state".into());
         }
-        check(t, "finish", tulvekas_finish(s, SESSION_BYTES, w, WIDE + 3), tag);
+        let mut open = session;
+        check(t, "finish", tulvekas_finish(s, SESSION_BYTES, w, WIDE + 3, o, 16), tag);
+        check(t, "finish", tulvekas_finish(open.as_mut_ptr(), SESSION_BYTES, o, 16, w, WIDE + 3), iv);
         check(t, "date", tulvekas_date(9_009, w, WIDE + 3), &[0xe8, 0x07, 8, 31]);
         check(t, "day", tulvekas_day(2024, 8, 31, w, WIDE + 3), &9_009_u64.to_le_bytes());
         check(t, "kept", tulvekas_kept(5, 5, w, WIDE), &[1]);

@@ -92,6 +92,7 @@ returns-2 c =
         pad = s .pad;
         current = z i;
         sum = (c .before .before .fresh .ensures ∙ ap fresh (done .1 ∙ ap (λ (v : List ℕ). hashFrom (s .h) (s .sum .hash) (under-blocks r n v)) f)) i;
+        iv = s .iv;
       })
           ∙ sym (whole-taken s g (q .start) n p long some (held-long start)),
       done .0 ∙ ap (λ (v : List ℕ). sets (now (a .out)) (a .from) (under-blocks r n v)) f ∙ ap (sets (now (a .out)) (a .from)) (sym (drawn-blocks s g (q .start) n p long .output)),

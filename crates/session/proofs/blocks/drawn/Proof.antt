@@ -26,6 +26,7 @@ returns-2 c =
       pad = sessionOf s .pad;
       current = f .z i;
       sum = sessionOf s .sum;
+      iv = s .iv;
     })
     ∙ sym (ready-start (sessionOf s) (omega (arith, c .before .before .before .before .before .before .if1 .left)))
 
