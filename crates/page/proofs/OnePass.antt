@@ -18,8 +18,8 @@ use Rattle.cipher.specs.Run.{forward, made, moves, zs, blocks}
 use Rattle.cipher.proofs.Moves.{moves-add, blocks-more, blocks-length}
 use Rattle.start.specs.Start.{Mode.sealed, start, sealed-keystream}
 use Rattle.start.proofs.Undo.{drawn-good}
-use Rattle.session.specs.Pass.{SoFar, Next}
-use Rattle.session.proofs.Sealing.{next-part}
+use Rattle.pass.specs.Pass.{SoFar, Next}
+use Rattle.pass.proofs.Sealing.{next-part}
 use Rattle.page.specs.Page.{encrypted, cipher-of, page-tag}
 use Rattle.page.specs.OnePass.{page-pass, Passes, OnePass}
 use Rattle.page.proofs.Ciphertext.{encrypted-append, cipher-length, stream-block}

@@ -1,5 +1,5 @@
 -- S-3 of document 02: sealing goes over a page once, and after every block ciphertext and hash so far are the defined ones. What is defined is Page.antt's; what a
--- pass is, and the invariant of the loops that seal, `Sealed`, is crates/session/specs/Pass.antt's.
+-- pass is, and the invariant of the loops that seal, `Sealed`, is crates/pass/specs/Pass.antt's.
 use Prim.Native.Nat.{ℕ, _+_, _*_, _≤_}
 use mathlib.Core.Path.{_≡_}
 use mathlib.Core.List.{List, _++_}
@@ -8,7 +8,7 @@ use Rattle.words.specs.Bytes.{Row, IsBlock, zeros}
 use Rattle.ghash.specs.Hash.{ceil16, padded, ghash}
 use Rattle.cipher.specs.Run.{forward, moves}
 use Rattle.start.specs.Start.{Mode.sealed, start, sealed-keystream}
-use Rattle.session.specs.Pass.{Pass, SoFar, Sealed}
+use Rattle.pass.specs.Pass.{Pass, SoFar, Sealed}
 use Rattle.page.specs.Page.{cipher-of}
 
 -- the pass over a page, into the front of the output: GHASH goes from the zero block over the padded data, and then over the page's ciphertext

@@ -84,7 +84,7 @@ pub fn seal(key: &[u8], iv: &[u8], ad: &[u8], text: &[u8], out: &mut [u8]) -> Ta
     let state = s.state;
     let registers = state.registers;
     let d = s.held;
-    let y = session::pass::sealed_text(registers, d.acc, s.h, text, out, &rounds, &table);
+    let y = pass::sealed_text(registers, d.acc, s.h, text, out, &rounds, &table);
     let t = session::lent::tag_from(s, text.len() as u64, y, &table);
     Tagged {
         answer: scope::ACCEPTED,

@@ -1,4 +1,3 @@
-pub mod Sealing
 pub mod Pieces
 pub mod Drawing
 pub mod Within

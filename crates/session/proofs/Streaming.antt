@@ -1,26 +1,22 @@
 -- The keystream alone, done up to place i: some session has come by text to place i, at the start of a block, with the registers r. What that
 -- session holds of the hash does not matter to what it writes, so the code keeps none.
-use mathlib.Core.Path.{_≡_, refl, sym, ap, ap₂, subst, _∙_}
+use mathlib.Core.Path.{_≡_, refl, sym, ap, subst, _∙_}
 use mathlib.Core.List.{List, _++_}
-use Prim.Native.Nat.{ℕ, _+_, _-_, _*_, _%_, _≤_, _<_, zero-le}
+use Prim.Native.Nat.{ℕ, _+_, _-_, _*_, _%_, _≤_, _<_}
 use native.Mathlib.Omega.{arith}
-use lib.ListN.{length, take, drop}
-use lib.Seq.{sets, length-sets, slice, length-slice, take-add}
+use lib.ListN.{length, drop}
+use lib.Seq.{sets, slice, length-slice}
 use Rattle.words.specs.Xor.{xors}
-use Rattle.words.specs.Bytes.{part}
-use Rattle.words.proofs.Rows.{xors-length, xors-append}
-use Rattle.words.proofs.Parts.{part-long, part-more}
-use Rattle.words.proofs.Writing.{put-next, read-written}
 use Rattle.cipher.specs.Registers.{Registers, IsRegisters}
 use Rattle.cipher.specs.Step.{z}
-use Rattle.cipher.specs.Run.{forward, moves, blocks}
+use Rattle.cipher.specs.Run.{forward, moves}
 use Rattle.cipher.specs.State.{State}
 use Rattle.cipher.proofs.Inverse.{z-block}
-use Rattle.cipher.proofs.Moves.{moves-good, blocks-length}
-use Rattle.digest.proofs.Slices.{slice-take}
+use Rattle.cipher.proofs.Moves.{moves-good}
+use Rattle.pass.specs.Inner.{under-blocks}
 use Rattle.session.specs.Session.{Session}
 use Rattle.session.specs.Pieces.{text-taken, text-out}
-use Rattle.session.specs.Inner.{ready, masked, under-blocks}
+use Rattle.session.specs.Inner.{ready, masked}
 use Rattle.session.proofs.Pieces.{text-count}
 use Rattle.session.proofs.Within.{ready-start, within-out}
 use Rattle.session.proofs.Whole.{drawn-blocks}
@@ -73,46 +69,3 @@ module _ {s : Session} {p o : List ℕ} {out : List ℕ} {r : Registers} {i : �
 pub stream-done : {s : Session} {p o : List ℕ} {out : List ℕ} {r : Registers} {i : ℕ} → Streaming s p o out r i → i ≡ length p → length p ≤ length o
     → out ≡ text-out s p ++ drop (length p) o
 stream-done g e h = whole (g .going) e h .1
-
--- ---- blocks of the input under keystream
-
--- of the n blocks from a place on i are done
-pub record Under (p key o : List ℕ) (from n i : ℕ) (out : List ℕ) : Type 0 where
-  pub at-most : i ≤ n
-  pub written : out ≡ sets o from (xors (part from (16 * i) p) (take (16 * i) key))
-
-pub under-size : {p key o : List ℕ} {from n i : ℕ} {out : List ℕ} → Under p key o from n i out → length out ≡ length o
-under-size {p} {key} {o} {from} {n} {i} m = ap length (m .written) ∙ length-sets o from (xors (part from (16 * i) p) (take (16 * i) key))
-
-module _ (p key o : List ℕ) (from n : ℕ) where
-  pub under-none : Under p key o from n 0 o
-  unfolding xors
-  under-none = record { at-most = zero-le; written = refl }
-
-  pub under-turn : from + 16 * n ≤ length p → 16 * n ≤ length key → (i : ℕ) {out c out′ : List ℕ} → i < n → Under p key o from n i out
-      → c ≡ xors (part (from + 16 * i) 16 p) (part (16 * i) 16 key) → out′ ≡ sets out (from + 16 * i) c → Under p key o from n (i + 1) out′
-  under-turn read long i {out} {c} {out′} lt m ec eo =
-      let at = from + 16 * i in
-      let v = xors (part from (16 * i) p) (take (16 * i) key) in
-      let kp = part-long p from (16 * i) (omega arith) in
-      let kk = part-long key 0 (16 * i) (omega arith) in
-      let kv : length v ≡ 16 * i = xors-length (part from (16 * i) p) (take (16 * i) key) (kp ∙ sym kk) ∙ kp in
-      let e : 16 * (i + 1) ≡ 16 * i + 16 = omega arith in
-      record {
-        at-most = omega arith;
-        written = put-next o v (xors (part at 16 p) (part (16 * i) 16 key)) from at (omega arith) (m .written) (eo ∙ ap (sets out at) ec)
-            ∙ ap (sets o from) (sym (xors-append (part from (16 * i) p) (take (16 * i) key) (part at 16 p) (part (16 * i) 16 key) (kp ∙ sym kk))
-            ∙ ap₂ xors (sym (part-more p from (16 * i) 16)) (sym (take-add (16 * i) 16 key))
-            ∙ ap (λ (k : ℕ). xors (part from k p) (take k key)) (sym e));
-      }
-
-  pub under-all : {i : ℕ} {out : List ℕ} → n ≤ i → Under p key o from n i out → out ≡ sets o from (xors (part from (16 * n) p) (take (16 * n) key))
-  under-all {i} h m = m .written ∙ ap (λ (k : ℕ). sets o from (xors (part from (16 * k) p) (take (16 * k) key))) (let e : i ≡ n = omega (arith, m .at-most) in e)
-
--- under k blocks that were drawn
-pub under-drawn : (p o key : List ℕ) (r : Registers) (i k : ℕ) {key₁ o₁ : List ℕ} → IsRegisters r → 16 * k ≤ length key
-    → key₁ ≡ sets key 0 (blocks forward k r) → o₁ ≡ sets o i (xors (part i (16 * k) p) (take (16 * k) key₁))
-    → o₁ ≡ sets o i (under-blocks r k (slice i (i + 16 * k) p))
-under-drawn p o key r i k {key₁} {o₁} g room ek eo =
-    let stands : take (16 * k) key₁ ≡ blocks forward k r = ap (take (16 * k)) ek ∙ read-written key 0 (16 * k) (blocks forward k r) (blocks-length forward k r g) (omega arith) in
-    eo ∙ ap₂ (λ (l v : List ℕ). sets o i (xors l v)) (sym (slice-take i (16 * k) p)) stands

@@ -16,9 +16,9 @@ use Rattle.cipher.proofs.Moves.{moves-good, blocks-more, blocks-length}
 use Rattle.cipher.proofs.Stepping.{moved-none, moved-more}
 use Rattle.digest.specs.Sum.{fresh}
 use Rattle.digest.proofs.Pieces.{absorb-over, absorb-whole}
+use Rattle.pass.specs.Inner.{under-blocks}
 use Rattle.session.specs.Session.{Session}
 use Rattle.session.specs.Pieces.{text-taken, text-out}
-use Rattle.session.specs.Inner.{under-blocks}
 use Rattle.session.proofs.Pieces.{text-none, out-none, text-append, out-append, out-length, text-count, text-phase, text-ad, text-h, text-pad, text-iv, text-sum}
 use Rattle.session.proofs.Within.{ready-start, drawn-once, block-out}
 

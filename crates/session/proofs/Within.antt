@@ -3,11 +3,10 @@
 use mathlib.Core.Path.{_≡_, refl, sym, ap, _∙_}
 use mathlib.Core.List.{List, [], _∷_}
 use Prim.Native.Nat.{ℕ, suc, _+_, _%_, _≤_, _<_}
-use native.Mathlib.Numerals.{add-one}
 use native.Mathlib.Omega.{arith}
 use borrow.Author.Tests.{ne-eqb}
-use lib.ListN.{length, drop, getD, set}
-use lib.Seq.{sets, drop-cons, slice, slice-cons, slice-empty}
+use lib.ListN.{length, drop, getD}
+use lib.Seq.{sets, drop-cons}
 use Rattle.words.specs.Xor.{_⊕_, xors}
 use Rattle.cipher.specs.Step.{z}
 use Rattle.cipher.specs.Run.{forward}
@@ -129,14 +128,3 @@ module _ (s : Session) (p : List ℕ) (start : s .text % 16 ≡ 0) (n : length p
 
   pub block-out : text-out s p ≡ xors p (z (s .state .registers))
   block-out = within-out s p (omega arith) drawn-long (omega arith) ∙ ap (λ (v : Session). masked v p) at-start ∙ rw start
-
--- ---- byte by byte, as a loop writes them: into l from place j on, text from place i on, under key bytes from place k on
-
-pub mask-turn : (l p key : List ℕ) (j k i to c : ℕ) → k < length key → i < to → to ≤ length p → c ≡ getD p i 0 ⊕ getD key k 0
-    → sets (set l j c) (j + 1) (xors (slice (i + 1) to p) (drop (k + 1) key)) ≡ sets l j (xors (slice i to p) (drop k key))
-unfolding xors
-mask-turn l p key j k i to c hk hi ht e = rw (add-one j, add-one k, add-one i, slice-cons i to p 0 hi ht, drop-cons key k 0 hk, e)
-
-pub mask-end : (l p key : List ℕ) (j k to : ℕ) → sets l j (xors (slice to to p) (drop k key)) ≡ l
-unfolding xors
-mask-end l p key j k to = rw (slice-empty to p)

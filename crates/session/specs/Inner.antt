@@ -1,6 +1,6 @@
 -- What the inner functions do and ask: a piece goes by parts of blocks and by whole blocks, and not by bytes. No call's
 -- contract names anything here. p and o are the lengths of the piece and of the output, `from` and `to` the places of the part in both.
-use Prim.Native.Nat.{ℕ, _+_, _-_, _%_, _^_, _<_, _≤_}
+use Prim.Native.Nat.{ℕ, _+_, _-_, _%_}
 use mathlib.Core.Path.{_≡_}
 use mathlib.Core.List.{List}
 use lib.Dec.{eqb}
@@ -8,14 +8,11 @@ use lib.ListN.{length, drop}
 use lib.Seq.{sets}
 use Rattle.scope.specs.Refusals.{pick}
 use Rattle.words.specs.Xor.{xors}
-use Rattle.aes.specs.Tables.{Holds}
-use Rattle.wide_round.specs.Wide.{wide}
 use Rattle.ghash.specs.Hash.{eat}
-use Rattle.ghash.specs.Machine.{Table}
-use Rattle.cipher.specs.Registers.{Registers}
-use Rattle.cipher.specs.Run.{forward, blocks}
+use Rattle.cipher.specs.Run.{forward}
 use Rattle.cipher.specs.State.{moved}
 use Rattle.digest.specs.Sum.{Sum, fresh}
+use Rattle.pass.specs.Inner.{Part}
 use Rattle.session.specs.Session.{Session}
 use Rattle.session.specs.Pieces.{byte-current}
 
@@ -67,28 +64,10 @@ sent-on s q m = counted s (s .text + m) (fresh (eat (s .h) (s .sum .hash) q))
 unfoldable pub held : Session → List ℕ → Session
 held s p = holding s (sets (s .sum .pending) (s .text % 16) (masked s p)) (length p)
 
--- ---- whole blocks
-
--- n blocks of text under as many of keystream
-abbrev pub under-blocks : Registers → (n : ℕ) → (p : List ℕ) → List ℕ
-under-blocks s n p = xors p (blocks forward n s)
-
 -- ---- what is asked
-
--- a part of the piece, at a length of text so far: it stands in both, and the length with it stays a u64
-pub record Part (text p o from to : ℕ) : Type 0 where
-  pub ordered : from ≤ to
-  pub read : to ≤ p
-  pub room : to ≤ o
-  pub counts : text + (to - from) < 2 ^ 64
 
 -- whole blocks, from the start of one
 pub record Blocks (text p o from to : ℕ) : Type 0 where
   pub part : Part text p o from to
   pub start : text % 16 ≡ 0
   pub whole : (to - from) % 16 ≡ 0
-
--- the lent tables: that of the rounds, and that of H
-pub record Lent (h rounds table : List ℕ) : Type 0 where
-  pub of-rounds : Holds wide rounds
-  pub of-h : Table h table

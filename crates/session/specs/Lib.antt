@@ -1,5 +1,4 @@
 pub mod Session
-pub mod Pass
 pub mod Pieces
 pub mod Calls
 pub mod Machine

@@ -4,20 +4,19 @@ ghost use mathlib.Core.List.{_++_};
 ghost use Prim.Native.Nat.{_+_, _-_, _%_, _^_, _<_, _≤_};
 ghost use lib.ListN.{length, drop};
 ghost use lib.Seq.{sets, slice};
-ghost use Rattle.words.specs.Xor.{xors};
 ghost use Rattle.aes.specs.Tables.{Holds};
 ghost use Rattle.wide_round.specs.Wide.{wide};
 ghost use Rattle.ghash.specs.Machine.{bytesOfElement};
+ghost use Rattle.pass.specs.Inner.{Part, Lent};
 ghost use Rattle.session.specs.Pieces.{text-taken, text-out};
 ghost use Rattle.session.specs.Machine.{sessionOf};
 ghost use Rattle.session.specs.Inner as Inner;
-ghost use Rattle.session.specs.Inner.{ready, masked, Part, Blocks, Lent};
+ghost use Rattle.session.specs.Inner.{ready, masked, Blocks};
 use crate::Session;
-use crate::pass;
-use crate::pass::Track;
 use cipher::State;
 use cipher::lanes;
 use digest::Held;
+use pass::Track;
 
 // A block is drawn where the next byte is the first of one, and not before.
 fn drawn(s: Session, rounds: &[u32; 256]) -> Session
@@ -42,33 +41,6 @@ fn drawn(s: Session, rounds: &[u32; 256]) -> Session
     r
 }
 
-// Bytes of text under keystream bytes, from `at` on: written, and put in p from there on.
-pub fn under(
-    key: [u8; 16],
-    p: [u8; 16],
-    at: usize,
-    piece: &[u8],
-    out: &mut [u8],
-    from: usize,
-    to: usize,
-) -> [u8; 16]
-    requires { ⌜ Part at (length (now piece)) (length (now out)) from to × (at + (to - from) ≤ 16) ⌝ }
-    ensures held { λ r. ⌜ r ≡ sets p at (xors (slice from to (now (piece .entry))) (drop at key)) ⌝ }
-    ensures out { λ _. ⌜ now (out .exit) ≡ sets (now (out .entry)) from (xors (slice from to (now (piece .entry))) (drop at key)) ⌝ }
-{
-    let mut q = p;
-    let mut k = at;
-    let mut i = from;
-    while i < to {
-        let c = piece[i] ^ key[k];
-        out[i] = c;
-        q[k] = c;
-        k += 1;
-        i += 1;
-    }
-    q
-}
-
 // Text of one block, written and held.
 fn hold(
     s: Session,
@@ -89,7 +61,7 @@ fn hold(
     let key = words::to_bytes(r.current);
     let n = r.text;
     let at = (n % 16) as usize;
-    let q = under(key, p, at, piece, out, from, to);
+    let q = pass::under(key, p, at, piece, out, from, to);
     let e = Held {
         acc: acc,
         pending: q,

@@ -1,11 +1,9 @@
-// What a whole page is made of but for the pass over its text (pass.rt): the calls with their tables lent, that of the rounds and that of H, so that one of each serves a page; and the keystream
+// What a whole page is made of but for the pass over its text (crate `pass`): the calls with their tables lent, that of the rounds and that of H, so that one of each serves a page; and the keystream
 // alone, for a page that is opened.
 ghost use mathlib.Core.Path.{_≡_};
 ghost use mathlib.Core.List.{_++_};
-ghost use Prim.Native.Nat.{_+_, _*_, _%_, _^_, _<_, _≤_};
-ghost use lib.ListN.{length, take, drop};
-ghost use lib.Seq.{sets};
-ghost use Rattle.words.specs.Bytes.{part};
+ghost use Prim.Native.Nat.{_+_, _%_, _^_, _<_, _≤_};
+ghost use lib.ListN.{length, drop};
 ghost use Rattle.aes.specs.Tables.{Holds};
 ghost use Rattle.wide_round.specs.Wide.{wide};
 ghost use Rattle.words.specs.Xor.{xors};
@@ -17,7 +15,6 @@ ghost use Rattle.session.specs.Calls.{begin-call};
 ghost use Rattle.session.specs.Machine.{sessionOf, Says};
 use crate::Said;
 use crate::Session;
-use crate::blocks;
 use cipher::lanes;
 use ghash::Element;
 use start::Mode;
@@ -82,23 +79,6 @@ pub fn tag_from(s: Session, n: u64, y: Element, table: &[u64; 1024]) -> Block
     words::xor(ghash::to_block(v), pad)
 }
 
-// n blocks of the input, from a place on, under as many of keystream: written from there on.
-fn under_keystream(input: &[u8], stream: &[u8], out: &mut [u8], from: usize, n: usize)
-    requires { ⌜ (from + 16 * n ≤ length (now input)) × (from + 16 * n ≤ length (now out)) × (16 * n ≤ length (now stream)) ⌝ }
-    ensures { λ _. ⌜ now (out .exit) ≡ sets (now (out .entry)) from (xors (part from (16 * n) (now (input .entry))) (take (16 * n) (now (stream .entry)))) ⌝ }
-{
-    let mut i: usize = 0;
-    while i < n {
-        let at = from + 16 * i;
-        words::store(
-            out,
-            at,
-            words::xor(words::load(input, at), words::load(stream, 16 * i)),
-        );
-        i += 1;
-    }
-}
-
 // What `text` would write, from the start of a block on, with nothing hashed: of a ciphertext, its text.
 pub fn apply_keystream(s: Session, input: &[u8], out: &mut [u8], rounds: &[u32; 256])
     requires { ⌜ (s .text % 16 ≡ 0) × (length (now input) ≤ length (now out)) × Holds wide (now rounds) ⌝ }
@@ -114,12 +94,12 @@ pub fn apply_keystream(s: Session, input: &[u8], out: &mut [u8], rounds: &[u32; 
         let k = lanes::at_most((to - i) / 16);
         let t = lanes::batch(registers, rounds, &mut stream, 0, k);
         registers = t;
-        under_keystream(input, &stream, out, i, k);
+        pass::under_keystream(input, &stream, out, i, k);
         i += 16 * k;
     }
     if i < n {
         let w = lanes::forward(registers, rounds);
         let z = w.z;
-        blocks::under(words::to_bytes(z), [0; 16], 0, input, out, i, n);
+        pass::under(words::to_bytes(z), [0; 16], 0, input, out, i, n);
     }
 }

@@ -1,5 +1,5 @@
 // A sealing session: begin, then data pieces, then text pieces, then finish. The session goes in by value and comes back. A piece of text goes by
-// blocks in blocks.rt; pass.rt has the loops that seal, of a piece's whole blocks and of a whole page; lent.rt has the calls for whoever makes the tables once for several.
+// blocks in blocks.rt; the crate `pass` has the loops that seal, of a piece's whole blocks and of a whole page; lent.rt has the calls for whoever makes the tables once for several.
 ghost use mathlib.Core.Path.{_≡_};
 ghost use mathlib.Core.List.{_++_};
 ghost use Prim.Native.Nat.{_+_, _^_, _<_, _≤_};
@@ -11,16 +11,15 @@ ghost use Rattle.ghash.specs.Hash as Hash;
 ghost use Rattle.ghash.specs.Machine.{bytesOfElement};
 ghost use Rattle.cipher.specs.Machine.{registersOf};
 ghost use Rattle.digest.specs.Machine.{sumOf};
+ghost use Rattle.pass.specs.Inner.{Part};
 ghost use Rattle.session.specs.Calls as Calls;
 ghost use Rattle.session.specs.Calls.{begun-from, begin-call, data-call, text-call, finish-call};
 ghost use Rattle.session.specs.Pieces.{closed, tag-of, text-taken, text-out};
 ghost use Rattle.session.specs.Machine.{sessionOf, Says, finishedOf};
 ghost use Rattle.session.specs.Inner as Inner;
-ghost use Rattle.session.specs.Inner.{Part};
 
 mod blocks;
 pub mod lent;
-pub mod pass;
 
 use cipher::Registers;
 use cipher::State;

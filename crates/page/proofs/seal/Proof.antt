@@ -13,8 +13,8 @@ use Rattle.ghash.specs.Hash.{lengths, eat, ceil16, padded, ghash}
 use Rattle.ghash.specs.Machine.{bytesOfElement}
 use Rattle.start.specs.Start.{sealed-keystream}
 use Rattle.start.proofs.Answers.{lengths-right}
+use Rattle.pass.specs.Pass.{SoFar, Sealed}
 use Rattle.session.specs.Session.{Session}
-use Rattle.session.specs.Pass.{SoFar, Sealed}
 use Rattle.page.specs.Page.{encrypted}
 use Rattle.page.specs.OnePass.{page-pass}
 use Rattle.page.specs.Reached.{session-of}

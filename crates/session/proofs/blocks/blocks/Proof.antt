@@ -16,10 +16,10 @@ use Rattle.cipher.specs.Machine.{registersOf}
 use Rattle.cipher.proofs.Typed.{every-state}
 use Rattle.digest.specs.Sum.{fresh}
 use Rattle.digest.proofs.Slices.{slice-take}
+use Rattle.pass.specs.Inner.{under-blocks}
+use Rattle.pass.proofs.Sealing.{sealed-own, last-drawn}
 use Rattle.session.specs.Machine.{sessionOf}
-use Rattle.session.specs.Inner.{under-blocks}
 use Rattle.session.proofs.Going.{none, all-session, all-output}
-use Rattle.session.proofs.Sealing.{sealed-own, last-drawn}
 use Rattle.session.proofs.Whole.{drawn-blocks, whole-taken}
 use Rattle.session.proofs.blocks.blocks.Statement.{statement}
 use Rattle.session.proofs.blocks.blocks.Tie as tie

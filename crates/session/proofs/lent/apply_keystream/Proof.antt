@@ -13,9 +13,10 @@ use Rattle.cipher.specs.Step.{z}
 use Rattle.cipher.specs.Run.{forward, made, blocks}
 use Rattle.cipher.specs.Machine.{registersOf}
 use Rattle.cipher.proofs.Typed.{every-state}
+use Rattle.pass.proofs.Masking.{under-drawn}
 use Rattle.session.specs.Session.{Session}
 use Rattle.session.specs.Machine.{sessionOf}
-use Rattle.session.proofs.Streaming.{Streaming, begun, stream-blocks, stream-end, stream-done, under-drawn}
+use Rattle.session.proofs.Streaming.{Streaming, begun, stream-blocks, stream-end, stream-done}
 use Rattle.session.proofs.lent.apply_keystream.Statement.{statement}
 use Rattle.session.proofs.lent.apply_keystream.Tie as tie
 

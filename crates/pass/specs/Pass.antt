@@ -50,7 +50,7 @@ abbrev pub Sealed : (h : List ℕ) (s : Registers) (text : List ℕ) (from n : �
 Sealed h s text from n out₀ y₀ i out y = (p : Pass) (b : ℕ) → Next p b h s text from n → SoFar p b out₀ y₀ → SoFar p (b + i) out y
 
 -- There always is one, these blocks by themselves; so that `Sealed` settles output and hash after every block. Proved: `sealed-settles`,
--- crates/session/proofs/Sealing.antt.
+-- crates/pass/proofs/Sealing.antt.
 abbrev pub Settles : Type 0
 Settles =
     (h : List ℕ) (s : Registers) → IsRegisters s → (text : List ℕ) (from n : ℕ) (out₀ y₀ : List ℕ) (i : ℕ) (out y : List ℕ)

@@ -1,4 +1,4 @@
--- `session::pass::sealed_batch` meets its contract: after i turns, of every pass whose blocks these are, i blocks more are written and hashed, and the lanes stand
+-- `pass::sealed_batch` meets its contract: after i turns, of every pass whose blocks these are, i blocks more are written and hashed, and the lanes stand
 -- at step i.
 use Prim.Native.Nat.{ℕ, _+_, _*_, _-_, _^_, _<_, _≤_, zero-le}
 use mathlib.Core.Path.{_≡_, refl, sym, ap, ap₂, subst, _∙_}
@@ -21,11 +21,11 @@ use Rattle.cipher.specs.Run.{forward, moves}
 use Rattle.cipher.specs.Machine.{registersOf}
 use Rattle.cipher.proofs.Typed.{every-registers}
 use Rattle.cipher.proofs.Standing.{Standing, Turned, standing-first, batch-z, batch-stands, standing-read, moves-lfsr}
-use Rattle.session.specs.Pass.{Sealed}
-use Rattle.session.proofs.Sealing.{sealed-none, sealed-more}
+use Rattle.pass.specs.Pass.{Sealed}
+use Rattle.pass.proofs.Sealing.{sealed-none, sealed-more}
 use borrow.Author.Needs.{needs}
-use Rattle.session.proofs.pass.sealed_batch.Statement.{statement}
-use Rattle.session.proofs.pass.sealed_batch.Tie as tie
+use Rattle.pass.proofs.sealed_batch.Statement.{statement}
+use Rattle.pass.proofs.sealed_batch.Tie as tie
 
 abbrev Inv-loop : tie.InvT-loop
 Inv-loop h text out₀ from n rounds table s y₀ r3₀ t1 t2 l1₀ l2₀ m₀ l i₀ out y r3 l1 l2 m i =

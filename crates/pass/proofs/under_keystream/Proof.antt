@@ -1,14 +1,14 @@
--- `session::lent::under_keystream` meets its contract: after i turns i blocks are written.
+-- `pass::under_keystream` meets its contract: after i turns i blocks are written.
 use Prim.Native.Nat.{_+_, _*_, _-_, _≤_}
 use mathlib.Core.Path.{ap₂, _∙_}
 use native.Mathlib.Omega.{arith}
 use denote.Ref.{now}
 use lib.ListN.{length}
 use Rattle.words.specs.Xor.{xors}
-use Rattle.session.proofs.Streaming.{Under, under-none, under-turn, under-size, under-all}
+use Rattle.pass.proofs.Masking.{Under, under-none, under-turn, under-size, under-all}
 use borrow.Author.Needs.{needs}
-use Rattle.session.proofs.lent.under_keystream.Statement.{statement}
-use Rattle.session.proofs.lent.under_keystream.Tie as tie
+use Rattle.pass.proofs.under_keystream.Statement.{statement}
+use Rattle.pass.proofs.under_keystream.Tie as tie
 
 abbrev Inv-loop : tie.InvT-loop
 Inv-loop input stream out₀ from n i₀ out i = Under input stream out₀ from n i out

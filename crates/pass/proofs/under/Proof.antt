@@ -1,4 +1,4 @@
--- `session::blocks::under` meets its contract: at each byte, what is left to write makes the whole, in the bytes held and in the output.
+-- `pass::under` meets its contract: at each byte, what is left to write makes the whole, in the bytes held and in the output.
 use Prim.Native.Nat.{_+_, _-_, _<_, _≤_}
 use mathlib.Core.Path.{_≡_, refl, sym, _∙_}
 use native.Mathlib.Omega.{arith}
@@ -7,11 +7,11 @@ use denote.Ref.{now}
 use lib.ListN.{length, drop, length-set}
 use lib.Seq.{sets, slice}
 use Rattle.words.specs.Xor.{_⊕_, xors}
-use Rattle.session.proofs.Within.{mask-turn, mask-end}
-use Rattle.session.proofs.blocks.under.Statement.{statement}
-use Rattle.session.proofs.blocks.under.Tie as tie
-use Rattle.session.proofs.blocks.under.Reads as reads
-use Rattle.session.proofs.blocks.under.Lts as lts
+use Rattle.pass.proofs.Masking.{mask-turn, mask-end}
+use Rattle.pass.proofs.under.Statement.{statement}
+use Rattle.pass.proofs.under.Tie as tie
+use Rattle.pass.proofs.under.Reads as reads
+use Rattle.pass.proofs.under.Lts as lts
 
 abbrev Inv-loop : tie.InvT-loop
 Inv-loop at piece out₀ from to key q₀ k₀ i₀ out q k i =

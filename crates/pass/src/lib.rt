@@ -1,15 +1,17 @@
-// Sealing in one pass: every block of text is read once, and its ciphertext is written once and hashed as it is made. (Of a piece of a session, blocks.rt reads the last
-// block again.)
+// Sealing in one pass: every block of text is read once, and its ciphertext is written once and hashed as it is made. (Of a piece of a session, its last whole
+// block is read again.) Beside it, text under keystream that is drawn already. Nothing here knows a session.
 ghost use mathlib.Core.Path.{_≡_};
-ghost use Prim.Native.Nat.{_+_, _*_, _≤_};
-ghost use lib.ListN.{length};
+ghost use Prim.Native.Nat.{_+_, _-_, _*_, _≤_};
+ghost use lib.ListN.{length, take, drop};
+ghost use lib.Seq.{sets, slice};
+ghost use Rattle.words.specs.Xor.{xors};
+ghost use Rattle.words.specs.Bytes.{part};
 ghost use Rattle.ghash.specs.Hash.{ceil16};
 ghost use Rattle.ghash.specs.Machine.{bytesOfElement};
 ghost use Rattle.cipher.specs.Run.{forward, moves};
 ghost use Rattle.cipher.specs.Machine.{registersOf};
-ghost use Rattle.session.specs.Pass.{Sealed};
-ghost use Rattle.session.specs.Inner.{Lent};
-use crate::blocks;
+ghost use Rattle.pass.specs.Pass.{Sealed};
+ghost use Rattle.pass.specs.Inner.{Part, Lent};
 use cipher::Registers;
 use cipher::lanes;
 use ghash::Element;
@@ -129,6 +131,50 @@ pub fn sealed_text(
     let z = w.z;
     let key = words::to_bytes(z);
     let zeros = [0u8; 16];
-    let last = blocks::under(key, zeros, 0, text, out, 16 * whole, n);
+    let last = under(key, zeros, 0, text, out, 16 * whole, n);
     ghash::absorb(v, words::load(&last, 0), h, table)
+}
+
+// Bytes of text under keystream bytes, from `at` on: written, and put in p from there on.
+pub fn under(
+    key: [u8; 16],
+    p: [u8; 16],
+    at: usize,
+    piece: &[u8],
+    out: &mut [u8],
+    from: usize,
+    to: usize,
+) -> [u8; 16]
+    requires { ⌜ Part at (length (now piece)) (length (now out)) from to × (at + (to - from) ≤ 16) ⌝ }
+    ensures held { λ r. ⌜ r ≡ sets p at (xors (slice from to (now (piece .entry))) (drop at key)) ⌝ }
+    ensures out { λ _. ⌜ now (out .exit) ≡ sets (now (out .entry)) from (xors (slice from to (now (piece .entry))) (drop at key)) ⌝ }
+{
+    let mut q = p;
+    let mut k = at;
+    let mut i = from;
+    while i < to {
+        let c = piece[i] ^ key[k];
+        out[i] = c;
+        q[k] = c;
+        k += 1;
+        i += 1;
+    }
+    q
+}
+
+// n blocks of the input, from a place on, under as many of keystream: written from there on.
+pub fn under_keystream(input: &[u8], stream: &[u8], out: &mut [u8], from: usize, n: usize)
+    requires { ⌜ (from + 16 * n ≤ length (now input)) × (from + 16 * n ≤ length (now out)) × (16 * n ≤ length (now stream)) ⌝ }
+    ensures { λ _. ⌜ now (out .exit) ≡ sets (now (out .entry)) from (xors (part from (16 * n) (now (input .entry))) (take (16 * n) (now (stream .entry)))) ⌝ }
+{
+    let mut i: usize = 0;
+    while i < n {
+        let at = from + 16 * i;
+        words::store(
+            out,
+            at,
+            words::xor(words::load(input, at), words::load(stream, 16 * i)),
+        );
+        i += 1;
+    }
 }

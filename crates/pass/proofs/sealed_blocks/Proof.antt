@@ -1,4 +1,4 @@
--- `session::pass::sealed_blocks` meets its contract: after each batch, of every pass whose blocks these are, the blocks up to there are written and hashed. Within a
+-- `pass::sealed_blocks` meets its contract: after each batch, of every pass whose blocks these are, the blocks up to there are written and hashed. Within a
 -- batch the same holds after every block.
 use Prim.Native.Nat.{ℕ, _+_, _-_, _*_, _^_, _<_, _≤_, zero-le}
 use mathlib.Core.Path.{_≡_, refl, ap, subst, _∙_}
@@ -12,10 +12,10 @@ use Rattle.cipher.specs.Run.{forward, moves}
 use Rattle.cipher.specs.Machine.{registersOf}
 use Rattle.cipher.proofs.Typed.{every-registers}
 use Rattle.cipher.proofs.Moves.{moves-add}
-use Rattle.session.specs.Pass.{Sealed}
-use Rattle.session.proofs.Sealing.{sealed-none, sealed-joined}
-use Rattle.session.proofs.pass.sealed_blocks.Statement.{statement}
-use Rattle.session.proofs.pass.sealed_blocks.Tie as tie
+use Rattle.pass.specs.Pass.{Sealed}
+use Rattle.pass.proofs.Sealing.{sealed-none, sealed-joined}
+use Rattle.pass.proofs.sealed_blocks.Statement.{statement}
+use Rattle.pass.proofs.sealed_blocks.Tie as tie
 
 abbrev Inv-loop : tie.InvT-loop
 Inv-loop h text out₀ rounds table from n u₀ i₀ out u i =

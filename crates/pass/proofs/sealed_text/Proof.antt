@@ -1,4 +1,4 @@
--- `session::pass::sealed_text` meets its contract: whole blocks in batches, and a short last block behind them, which is hashed with zeros behind it.
+-- `pass::sealed_text` meets its contract: whole blocks in batches, and a short last block behind them, which is hashed with zeros behind it.
 use Prim.Native.Nat.{ℕ, _+_, _-_, _*_, _/_, _^_, _<_}
 use mathlib.Core.Path.{_≡_, sym, ap, ap₂, subst, _∙_}
 use native.Mathlib.Nat.{zero-add}
@@ -20,10 +20,10 @@ use Rattle.cipher.specs.Run.{forward, made, moves}
 use Rattle.cipher.specs.Machine.{registersOf}
 use Rattle.cipher.proofs.Typed.{every-registers}
 use Rattle.digest.proofs.Settling.{sets-padded}
-use Rattle.session.specs.Pass.{Sealed}
-use Rattle.session.proofs.Sealing.{sealed-front, sealed-more, last-part}
-use Rattle.session.proofs.pass.sealed_text.Statement.{statement}
-use Rattle.session.proofs.pass.sealed_text.Tie as tie
+use Rattle.pass.specs.Pass.{Sealed}
+use Rattle.pass.proofs.Sealing.{sealed-front, sealed-more, last-part}
+use Rattle.pass.proofs.sealed_text.Statement.{statement}
+use Rattle.pass.proofs.sealed_text.Tie as tie
 
 returns : tie.Need-returns
 returns c =

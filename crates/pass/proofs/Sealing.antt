@@ -20,8 +20,8 @@ use Rattle.cipher.specs.Step.{z}
 use Rattle.cipher.specs.Run.{forward, made, moves, blocks}
 use Rattle.cipher.proofs.Inverse.{z-block}
 use Rattle.cipher.proofs.Moves.{moves-good, blocks-one, blocks-part, blocks-length}
-use Rattle.session.specs.Pass.{Pass, SoFar, Next, Sealed, Settles}
-use Rattle.session.specs.Inner.{under-blocks}
+use Rattle.pass.specs.Pass.{Pass, SoFar, Next, Sealed, Settles}
+use Rattle.pass.specs.Inner.{under-blocks}
 
 -- ---- one block
 
