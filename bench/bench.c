@@ -266,7 +266,7 @@ static void compare(const struct row *r)
 static int sealed_and_opened(void)
 {
     uint8_t session[TULVEKAS_SESSION_BYTES], block[TULVEKAS_SUSPENDED_BYTES], state[TULVEKAS_STATE_BYTES], again[16], given_iv[16], kept;
-    uint8_t date[TULVEKAS_DATE_BYTES], number[TULVEKAS_DAY_BYTES];
+    uint8_t date[TULVEKAS_DATE_BYTES], number[TULVEKAS_DAY_BYTES], store[2 * TULVEKAS_KEYS_BLOCK_BYTES] = {0}, fetched[TULVEKAS_KEY_BYTES];
     return tulvekas_seal(key, sizeof key, iv, sizeof iv, zeros, 100, text, MOST_TEXT, out, sizeof out, tag, sizeof tag) == 0 &&
            tulvekas_open(key, sizeof key, iv, sizeof iv, zeros, 100, out, MOST_TEXT, tag, sizeof tag, expected, sizeof expected) == 0 &&
            memcmp(expected, text, MOST_TEXT) == 0 && tulvekas_begin(key, sizeof key, iv, sizeof iv, session, sizeof session) == 0 &&
@@ -278,7 +278,10 @@ static int sealed_and_opened(void)
            tulvekas_start(key, sizeof key, iv, sizeof iv, 1, state, sizeof state) == 0 &&
            tulvekas_run(state, sizeof state, MOST_TEXT / 16, 0, expected, sizeof expected) == 0 && tulvekas_kept(0, 0, &kept, 1) == 0 &&
            tulvekas_date(0, date, sizeof date) == 0 && tulvekas_day(2000, 1, 1, number, sizeof number) == 0 &&
-           tulvekas_kept_until(0, date, sizeof date) == 0;
+           tulvekas_kept_until(0, date, sizeof date) == 0 &&
+           tulvekas_keys_store(key, sizeof key, iv, sizeof iv, text, TULVEKAS_KEY_BYTES, store, sizeof store) == 0 &&
+           tulvekas_keys_fetch(key, sizeof key, iv, sizeof iv, store, sizeof store, fetched, sizeof fetched) == 0 &&
+           memcmp(fetched, text, sizeof fetched) == 0 && tulvekas_keys_erase(iv, sizeof iv, store, sizeof store) == 0;
 }
 
 static void *all_calls(void *unused)

@@ -15,21 +15,23 @@
  *   - Each stay needs an IV of its own under a key. Two pages under one key and one IV give away the difference of their texts, and help
  *     whoever wants to forge a tag.
  *   - Document 01, which this library was written to, says stay number for the IV, park for suspend, take up for resume, and parked block for
- *     suspended block. Document 02, which asked for page files, says stay book for such a file.
+ *     suspended block. Document 02, which asked for page files and key stores, says stay book and shelf for these, and shelving for storing a key.
  *
  * What is proved, and what is not
  *   - Proved of every call, for every length and every content: the number that it answers; each byte that it writes; that every other byte of
  *     the buffers lent to it stays as it was; that it ends, and stays inside those buffers. Ciphertext and tag are those of definitions that
  *     render the paper, by pieces and in a page file as well; a session resumed is the one suspended; as many blocks back as forward, or
  *     forward as back, give the state again where neither run is refused; a trace finds the IV and mode that led to a state, and 6 exactly if
- *     none did; the date of a day has that day again, and later days later dates; a page is kept up to its last date and on no later day.
+ *     none did; the date of a day has that day again, and later days later dates; a page is kept up to its last date and on no later day; a
+ *     stay's key that was stored is fetched until it is erased, and then the store is the one that any other key would have left.
  *     docs/PROMISES.md has the statements, and what they assume.
  *   - Tested: that this page and the code agree. tests/differential compares every call with an implementation in Rust that was written from
  *     the documents, or from the definitions where these leave a session's bytes open, and the declarations and numbers below with those
  *     that the tests use.
- *   - Measured: the stack. tests/differential measures each call at six sizes of page, or of file, and finds none that takes more than 16 KiB.
+ *   - Measured: the stack. tests/differential measures each call at six sizes of page, of file or of store, and finds none that takes more than
+ *     16 KiB.
  *   - Read off the code: no function calls itself, directly or by way of others; none claims memory or has a variable that outlives the call;
- *     tulvekas_open and tulvekas_file_open compare all 16 bytes of the tag before they write a byte.
+ *     tulvekas_open, tulvekas_file_open and tulvekas_keys_fetch compare all 16 bytes of the tag before they write a byte.
  */
 #ifndef TULVEKAS_H
 #define TULVEKAS_H
@@ -45,15 +47,16 @@ extern "C" {
 #define TULVEKAS_KEY_BYTES 32
 #define TULVEKAS_IV_BYTES 16
 #define TULVEKAS_TAG_BYTES 16
-#define TULVEKAS_BLOCK_BYTES 16      /* of keystream */
-#define TULVEKAS_SESSION_BYTES 240   /* a session between two calls; its contents are secret */
-#define TULVEKAS_SUSPENDED_BYTES 512 /* a suspended block; secret too */
-#define TULVEKAS_STATE_BYTES 120     /* a state: the cipher's registers and their count of blocks; secret too */
-#define TULVEKAS_PAGE_BYTES 512      /* a page of a page file */
-#define TULVEKAS_STAY_BYTES 12       /* a stay in a page file: with a page number of 4 bytes it is an IV */
-#define TULVEKAS_LENGTH_BYTES 8      /* the length of the text that tulvekas_file_open wrote */
-#define TULVEKAS_DATE_BYTES 4        /* a date: year, month, day */
-#define TULVEKAS_DAY_BYTES 8         /* the day number that tulvekas_day writes */
+#define TULVEKAS_BLOCK_BYTES 16       /* of keystream */
+#define TULVEKAS_SESSION_BYTES 240    /* a session between two calls; its contents are secret */
+#define TULVEKAS_SUSPENDED_BYTES 512  /* a suspended block; secret too */
+#define TULVEKAS_STATE_BYTES 120      /* a state: the cipher's registers and their count of blocks; secret too */
+#define TULVEKAS_PAGE_BYTES 512       /* a page of a page file */
+#define TULVEKAS_STAY_BYTES 12        /* a stay in a page file: with a page number of 4 bytes it is an IV */
+#define TULVEKAS_LENGTH_BYTES 8       /* the length of the text that tulvekas_file_open wrote */
+#define TULVEKAS_DATE_BYTES 4         /* a date: year, month, day */
+#define TULVEKAS_DAY_BYTES 8          /* the day number that tulvekas_day writes */
+#define TULVEKAS_KEYS_BLOCK_BYTES 512 /* a block of a key store */
 
 /* Limits. */
 #define TULVEKAS_MOST_DATA 65535     /* bytes of associated data of a page or session */
@@ -67,15 +70,16 @@ extern "C" {
 
 /* What a call answers. */
 #define TULVEKAS_ACCEPTED 0
-#define TULVEKAS_KEY_LENGTH 1      /* key not 32 bytes */
+#define TULVEKAS_KEY_LENGTH 1      /* key not 32 bytes; of a key store: either key */
 #define TULVEKAS_IV_LENGTH 2       /* IV not 16 bytes; of a page file: stay not 12 bytes */
 #define TULVEKAS_TOO_LONG 3        /* associated data over 65,535 bytes or text over 1,048,576, counted over the session; of a page file:
                                     * text over 474 bytes */
-#define TULVEKAS_SHORT_OUTPUT 4    /* a lent buffer is shorter than what must be written */
-#define TULVEKAS_BAD_TAG 5         /* the tag is not the page's */
+#define TULVEKAS_SHORT_OUTPUT 4    /* a lent buffer is shorter than what must be written; a key store has no empty block */
+#define TULVEKAS_BAD_TAG 5         /* the tag is not the page's; of a key store: not the sealed key's */
 #define TULVEKAS_NO_ORIGIN 6       /* no IV and mode lead to this state; at resume, none in sealed mode */
 #define TULVEKAS_OUT_OF_PHASE 7    /* data behind text, or anything behind finish */
-#define TULVEKAS_BAD_BLOCK 8       /* a suspended block breaks a rule of its layout; a session or state has another length than above */
+#define TULVEKAS_BAD_BLOCK 8       /* a suspended block breaks a rule of its layout; a session or state has another length than above; a key
+                                    * store breaks one of its rules */
 #define TULVEKAS_COUNT_TOO_HIGH 9  /* more than 65,538 blocks: to be drawn at once, in a state's count, or where a run or a text would lead */
 #define TULVEKAS_TAG_LENGTH 10     /* tag not 16 bytes */
 #define TULVEKAS_MALFORMED 11      /* the input of the program `seal` is malformed; no call here gives it */
@@ -83,6 +87,8 @@ extern "C" {
 #define TULVEKAS_BAD_FILE 13       /* a page file's length, a place in it, a stored length, a stored day or the padding is not as it must be */
 #define TULVEKAS_BAD_STAY 14       /* the stay lacks the page, or its pages do not run 0, 1, 2 in file order, or their days differ */
 #define TULVEKAS_BEFORE_START 15   /* a run back past the start, where the count is 0 */
+#define TULVEKAS_NUMBER_TAKEN 16   /* the stay number stands in the key store already, held or erased */
+#define TULVEKAS_NO_KEY 17         /* the stay number is not in the key store, or its key was erased */
 
 /* ---- whole pages
  *
@@ -309,8 +315,8 @@ uint64_t tulvekas_kept_until(uint64_t departure, uint8_t *date, size_t date_len)
  *   - What a caller has to see to: stay and page number are the IV. To seal one page number of one stay twice under one key, with another text or
  *     another day, uses one IV twice: whoever has both pages has the difference of their texts, and help to forge a tag. So a page that is sealed
  *     again wants another page number, another stay or another key; where the day of a stay changes, all its pages want another stay or another
- *     key. Another place is not enough, nor is another day, since neither is part of the IV; nor may tulvekas_seal or tulvekas_begin be given the
- *     same 16 bytes as IV under that key. */
+ *     key. Another place is not enough, nor is another day, since neither is part of the IV; nor may tulvekas_seal, tulvekas_begin or
+ *     tulvekas_keys_store be given the same 16 bytes as IV under that key. */
 
 /* Seals a page into its place in a file. Stay and text may not lie in that file: a stay that is read from it has to be copied out first.
  * Writes: the 512 bytes of the page at that place. Never another page.
@@ -324,6 +330,66 @@ uint64_t tulvekas_file_seal(const uint8_t *key, size_t key_len, const uint8_t *s
  * length), 5, 13 (the text has other bytes than zeros behind its stored length), 4 (length shorter than 8 bytes). */
 uint64_t tulvekas_file_open(const uint8_t *key, size_t key_len, const uint8_t *stay, size_t stay_len, uint32_t page, const uint8_t *file,
                             size_t file_len, uint8_t *out, size_t out_len, uint8_t *length, size_t length_len);
+
+/* ---- key stores
+ *
+ * A key store holds the keys of many stays, each sealed under the season's key. It is blocks of TULVEKAS_KEYS_BLOCK_BYTES bytes and nothing else;
+ * the block at place i begins at byte 512 * i. Bytes that are all zero, 512 for each block, are an empty store. A block:
+ *
+ *     bytes      what stands there
+ *     0          mark: 0 empty, 1 held, 2 erased
+ *     16-31      the stay number, an IV
+ *     32-63      sealed key
+ *     64-79      its tag
+ *     508-511    check: the sum modulo 2^32 of the 127 words of 32 bits before, as in a suspended block
+ *     others     zero
+ *
+ * Sealed key and tag are the ciphertext and the tag that tulvekas_seal gives for the stay's key as the text, under the season's key, with the
+ * number as the IV and no associated data. The number can be read without the key.
+ *
+ *     tulvekas_keys_store(key, sizeof key, iv, sizeof iv, stay_key, sizeof stay_key, store, sizeof store)
+ *     tulvekas_keys_fetch(key, sizeof key, iv, sizeof iv, store, sizeof store, fetched, sizeof fetched)
+ *     tulvekas_keys_erase(iv, sizeof iv, store, sizeof store)
+ *
+ * Here key is the season's. examples/keys.c makes these calls on a store that it keeps in a file.
+ *
+ * The rules of a store: its length is a multiple of 512 (0 included: a store without a block); every block is as in the table, with its check right;
+ * an empty block is all zero; an erased one is zero at key and tag; no number stands in two blocks of mark 1 or 2. The number of 16 zero bytes is a
+ * number like any other: an empty block does not have it.
+ *
+ *   - Every call tests these rules in every block, whichever number is named: one that is broken anywhere gives 8 for all, behind 1 and 2. It
+ *     goes over all blocks, tests each block's rules once and compares its number with those before it, so that what a call takes grows with
+ *     the square of the number of blocks. Whether a tag is its sealed key's is tested in the block that is fetched, and in no other.
+ *   - Erasing zeroes the sealed key and its tag in the store that is lent, and nothing of the key is left there: stores that differed in that key
+ *     alone are equal byte for byte afterwards. It zeroes no copy: a store that was copied before, or that a disk or a backup still has, gives the
+ *     key to whoever has the season's key. It takes no key, so that whoever may write the store may erase.
+ *   - A number once stored is never given another key in that store, not even when it is erased: two seals under one key and one IV would give
+ *     away the difference of the two keys. So the block of an erased number is not used again, and a store has room for as many numbers in all as
+ *     it has blocks. A longer store is the same bytes with zeros behind them, 512 for each block more.
+ *   - What a caller has to see to: the number is an IV under the season's key. The same number may be stored under that key in no other store, nor
+ *     again in an earlier copy of this one, unless with the same stay key; nor may tulvekas_seal, tulvekas_begin, tulvekas_keystream,
+ *     tulvekas_start or a page file be given the same 16 bytes as IV under that key. Pages of the stay are sealed under its own key. Each number
+ *     gets a key of its own: one that is stored for two numbers is erased for each by itself.
+ *   - The check is against accidents and not against forgery, and the tag covers the key and its number alone: whoever may write a store can
+ *     empty blocks, exchange their places, and put an earlier copy of a block in its place again. */
+
+/* Stores a stay's key: seals it into the first empty block. Keys and number may not lie in that store.
+ * Writes: the 512 bytes of that block. Never another block.
+ * Refuses: 1 (either key), 2, 8 (a rule of the store), 16 (the number stands in it, held or erased), 4 (no block is empty). */
+uint64_t tulvekas_keys_store(const uint8_t *key, size_t key_len, const uint8_t *iv, size_t iv_len, const uint8_t *stay_key, size_t stay_key_len,
+                             uint8_t *store, size_t store_len);
+
+/* Fetches a stay's key, wherever in the store it stands.
+ * Writes: the 32 bytes of the stay's key to the front of out. Never the store.
+ * Refuses: 1, 2, 8 (a rule of the store), 17 (the number is not in it, or is erased), 5, 4 (out shorter than 32). */
+uint64_t tulvekas_keys_fetch(const uint8_t *key, size_t key_len, const uint8_t *iv, size_t iv_len, const uint8_t *store, size_t store_len,
+                             uint8_t *out, size_t out_len);
+
+/* Erases a stay's key: sets its block's mark to 2, zeroes its sealed key and tag and makes its check anew; the number stays. The number may not lie
+ * in that store: one that is read from it has to be copied out first.
+ * Writes: the mark, the sealed key, the tag and the check of that block. Never another block.
+ * Refuses: 2, 8 (a rule of the store), 17 (the number is not in it, or is erased). */
+uint64_t tulvekas_keys_erase(const uint8_t *iv, size_t iv_len, uint8_t *store, size_t store_len);
 
 #ifdef __cplusplus
 }

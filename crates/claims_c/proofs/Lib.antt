@@ -1,5 +1,6 @@
 pub mod CipherThroughC
 pub mod FilesThroughC
+pub mod KeysThroughC
 pub mod DatesThroughC
 pub mod OnBytes
 pub mod StatesOnBytes

@@ -39,6 +39,7 @@ use Rattle.claims_c.specs.Lists.{left, Buffers, CCall, c-call, c-calls, 
 use Rattle.claims_c.specs.ThroughC.{Stands, ResumesThroughC, TracesThroughC, NamedThroughC, ThroughC}
 use Rattle.claims_c.proofs.CipherThroughC.{keystream, tells-state, traces, seals}
 use Rattle.claims_c.proofs.FilesThroughC.{opens-file}
+use Rattle.claims_c.proofs.KeysThroughC.{fetches-key, key-fetched, key-gone}
 use Rattle.claims_c.proofs.DatesThroughC.{day-through, kept-through, kept-byte, no-date, no-day, no-kept-date, no-verdict, no-room}
 use Rattle.claims_c.proofs.OnBytes.{stored, bytes, stands, data-left, text-left, answered, resumed-left, resumed-iv, resumed-fresh, both-fit, finish-left, finish-short, sized-open, sized}
 use Rattle.claims_c.proofs.StatesOnBytes.{stored-state, course-sized, course-left, stands-course, returned}
@@ -275,6 +276,9 @@ through-c =
       resumed-on = resumed-on;
       seals = seals;
       opens-file = opens-file;
+      fetches-key = fetches-key;
+      key-fetched = key-fetched;
+      key-gone = key-gone;
       keystream = keystream;
       stands-state = stands-course;
       returned = returned;

@@ -2,11 +2,11 @@
 use Prim.Native.Nat.{ℕ, _*_, _≤_, _<_}
 use mathlib.Core.Path.{_≡_}
 use mathlib.Core.Logic.{_⊎_}
-use mathlib.Core.Bool.{not}
+use mathlib.Core.Bool.{true, not}
 use mathlib.Core.List.{List, _∷_, _++_}
 use lib.ListN.{length, take, drop}
 use Rattle.scope.specs.Limits.{last-day}
-use Rattle.scope.specs.Refusals.{pick, granted, short-output, day-range}
+use Rattle.scope.specs.Refusals.{pick, granted, short-output, day-range, no-key}
 use Rattle.words.specs.Bytes.{little, part}
 use Rattle.cipher.specs.Run.{forward}
 use Rattle.cipher.specs.State.{State, run-number, run-state, run-part}
@@ -22,12 +22,16 @@ use Rattle.claims.specs.Claims.{Keyed}
 use Rattle.page.specs.Calls.{seal-number, seal-out, seal-tag}
 use Rattle.page_file.specs.Calls as Files
 use Rattle.page_file.specs.Calls.{Opened, open-out, open-answer}
+use Rattle.key_store.specs.Calls.{store-number, store-after, fetch-number, fetch-key, erase-number, erase-after}
+use Rattle.claims_keys.specs.Lists as Keys
+use Rattle.claims_keys.specs.Lists.{never-erases}
 use Rattle.calendar.specs.Calendar.{Date, on-or-before, date-of}
 use Rattle.calendar.specs.Calls.{Dated, Dated.dated, to-date, to-day}
 use Rattle.retention.specs.Keeping.{last-date, kept-until, keeping}
 use Rattle.tulvekas.specs.Order.{next}
 use Rattle.tulvekas.specs.Pages.{seal-answer, seal-writes, seal-writes-tag}
 use Rattle.tulvekas.specs.Files.{file-open-answer, file-open-writes, file-open-length}
+use Rattle.tulvekas.specs.Keys.{keys-fetch-answer, keys-fetch-writes}
 use Rattle.tulvekas.specs.StateBytes.{state-bytes, state-in}
 use Rattle.tulvekas.specs.SessionBytes.{session-bytes, session-in}
 use Rattle.tulvekas.specs.Sessions.{data-answer, text-answer, text-writes, finish-answer, finish-writes-tag, finish-writes-iv, suspend-answer, suspend-writes, resume-answer, resume-writes}
@@ -138,6 +142,18 @@ pub record ThroughC : Type 0 where
   pub opens-file : (key stay : List ℕ) (n : ℕ) (file out len : List ℕ) → 8 ≤ length len
       → ToldOpened (open-answer key stay n file (length out)) len (file-open-answer key stay n file out len) (file-open-length key stay n file out len)
       × (file-open-writes key stay n file out len ≡ open-out key stay n file out)
+  -- S-6: with room for the key, fetch answers what fetch below does and writes the key; store and erase are the very calls below. So through C what was stored
+  -- is fetched, and what was erased is refused with 17, after every list of calls that the claims of key stores speak of.
+  pub fetches-key : (key iv store out : List ℕ) → 32 ≤ length out
+      → (keys-fetch-answer key iv store out ≡ fetch-number key iv store)
+      × (keys-fetch-writes key iv store out ≡ granted (fetch-number key iv store) (fetch-key key iv store ++ drop 32 out) out)
+  pub key-fetched : (key iv k store : List ℕ) → store-number key iv k store ≡ 0 → (cs : List Keys.Call) → never-erases iv cs ≡ true
+      → (out : List ℕ) → 32 ≤ length out
+      → (keys-fetch-answer key iv (Keys.after cs (store-after key iv k store)) out ≡ 0)
+      × (keys-fetch-writes key iv (Keys.after cs (store-after key iv k store)) out ≡ k ++ drop 32 out)
+  pub key-gone : (iv store : List ℕ) → erase-number iv store ≡ 0 → (cs : List Keys.Call) (key : List ℕ) → length key ≡ 32 → (out : List ℕ)
+      → (keys-fetch-answer key iv (Keys.after cs (erase-after iv store)) out ≡ no-key)
+      × (keys-fetch-writes key iv (Keys.after cs (erase-after iv store)) out ≡ out)
   -- Keystream answers and writes what start and a run forward of as many whole blocks as fit do.
   pub keystream : (key iv : Bytes) (mode : ℕ) (out : List ℕ)
       → let blocks = run-part forward (started (key .list) (iv .list) (mode-named mode)) (length out) (fitting out) in

@@ -17,13 +17,14 @@ use Rattle.words.proofs.Bytes.{little-number}
 use Rattle.words.proofs.Parts.{part-row, part-long, grow}
 use Rattle.words.proofs.Tests.{and-left, and-right, same-eq}
 use Rattle.fields.specs.Fields.{every, all-zero}
+use Rattle.fields.specs.Blocks.{cut, blocks, whole}
 use Rattle.fields.proofs.Zeros.{all-zero-zeros}
 use Rattle.page.specs.Page.{cipher-of, tag-for, page-tag}
 use Rattle.page.proofs.Ciphertext.{cipher-length, cipher-twice}
 use Rattle.scope.proofs.Refusing.{refuse-none}
 use Rattle.page_file.specs.Layout.{stay-of, page-number, departure, text-length, cipher-in, tag-in, iv-of, ad-of}
 use Rattle.page_file.specs.Layout.{header, padded-text, sealed-under, sealed-page}
-use Rattle.page_file.specs.File.{cut, pages, whole-pages, in-range, in-order, of-stay, lacks, stay-in-order, named}
+use Rattle.page_file.specs.File.{pages, in-range, in-order, of-stay, lacks, stay-in-order, named}
 use Rattle.page_file.specs.Calls.{content, page-open-number, page-of, open-number, open-text, Opened.written, Opened.refused, open-answer}
 use Rattle.page_file.proofs.Pages.{in-order-holds}
 
@@ -151,7 +152,7 @@ module _ (key stay : List ℕ) (n : ℕ) (f : List ℕ) (room : ℕ) (bytes : (i
   page = page-of stay n f
 
   found-there : Found stay n page × (page-open-number key page room ≡ 0)
-  unfolding open-number page-of pages in-order
+  unfolding open-number page-of blocks in-order
   found-there =
       let bs : List (List ℕ) = of-stay stay (pages f) in
       let k : Bool = not (eqb (length key) 32) in
@@ -163,10 +164,10 @@ module _ (key stay : List ℕ) (n : ℕ) (f : List ℕ) (room : ℕ) (bytes : (i
       let c = refuse-none (not (in-order f)) bad-file (refuse z bad-stay x) (lit< tt) (b .1) in
       let d = refuse-none z bad-stay x (lit< tt) (c .1) in
       let o : in-order f ≡ true = not-false (in-order f) (c .0) in
-      let w : length f % 512 ≡ 0 = eqb-true (length f % 512) 0 (and-left (whole-pages f) (every (map in-range (pages f))) o) in
+      let w : length f % 512 ≡ 0 = eqb-true (length f % 512) 0 (and-left (whole f) (every (map in-range (pages f))) o) in
       let row : Row (512 * (length f / 512)) 256 f = record { long = omega arith; below = bytes } in
       let there = in-order-holds n bs (not-false (stay-in-order n bs) (d .0)) .0 in
-      (found stay n (length f / 512) f row (and-right (whole-pages f) (every (map in-range (pages f))) o) there, d .1)
+      (found stay n (length f / 512) f row (and-right (whole f) (every (map in-range (pages f))) o) there, d .1)
 
   opened : (text-length page ≡ length (open-text key stay n f)) × (page ≡ sealed-page key stay n (departure page) (open-text key stay n f))
   unfolding open-text

@@ -12,10 +12,13 @@ use Rattle.scope.specs.Refusals.{pick}
 use Rattle.words.specs.Bytes.{same, part}
 use Rattle.words.proofs.Tests.{and-right, same-refl, same-eq}
 use Rattle.fields.specs.Fields.{every}
+use Rattle.fields.specs.Blocks.{whole, replaced}
+use Rattle.fields.proofs.Every.{every-append}
+use Rattle.fields.proofs.Blocks.{cut-long, blocks-before, blocks-split, replaced-long, blocks-replaced}
 use Rattle.page_file.specs.Layout.{stay-of, page-number, sealed-page}
-use Rattle.page_file.specs.File.{pages, replaced, whole-pages, in-range, in-order, of-stay, named}
+use Rattle.page_file.specs.File.{pages, in-range, in-order, of-stay, named}
 use Rattle.page_file.specs.Calls.{seal-number, seal-file, page-of}
-use Rattle.page_file.proofs.Pages.{cut-long, pages-before, pages-split, replaced-long, pages-replaced, of-stay-append, every-append}
+use Rattle.page_file.proofs.Pages.{of-stay-append}
 use Rattle.claims_file.specs.Claims.{Sealable, Place, before, behind}
 use Rattle.claims_file.proofs.Accepting.{accepted}
 use Rattle.claims_file.proofs.Reading.{stay-is, number-is, sealed-long, range-is}
@@ -86,20 +89,20 @@ module _ (key stay : List ℕ) (n day : ℕ) (t f : List ℕ) (i : ℕ) (e : sea
   file-long = ap length file-is ∙ replaced-long f i (place .whole) (place .inside) page page-long
 
   pub pages-after : pages file ≡ before i f ++ page ∷ behind i f
-  pages-after = ap pages file-is ∙ pages-replaced f i (place .whole) (place .inside) page page-long
+  pages-after = ap pages file-is ∙ blocks-replaced f i (place .whole) (place .inside) page page-long
 
   -- and behind the place nothing changes
   pub behind-after : behind i file ≡ behind i f
   behind-after =
-      let l : length (before i f) ≡ i = ap length (pages-before f i (place .whole) (place .inside)) ∙ cut-long i f in
+      let l : length (before i f) ≡ i = ap length (blocks-before f i (place .whole) (place .inside)) ∙ cut-long i f in
       ap (drop (i + 1)) pages-after
       ∙ sym (drop-drop 1 i (before i f ++ page ∷ behind i f))
       ∙ ap (drop 1) (drop-at (before i f) (page ∷ behind i f) i l)
 
   pages-were : pages f ≡ before i f ++ old ∷ behind i f
-  pages-were = pages-split f i (place .whole) (place .inside)
+  pages-were = blocks-split f i (place .whole) (place .inside)
 
-  whole-after : whole-pages file ≡ true
+  whole-after : whole file ≡ true
   whole-after = eq-eqb (length file % 512) 0 (ap (λ (k : ℕ). k % 512) file-long ∙ place .whole)
 
   pub order-after : in-order file ≡ (every (map in-range (before i f)) && every (map in-range (behind i f)))
@@ -147,7 +150,7 @@ module _ (key stay : List ℕ) (n day : ℕ) (t f : List ℕ) (i : ℕ) (e : sea
       let q : Bool = every (map in-range (behind i f)) in
       let w : every (map in-range (pages f)) ≡ (p && (in-range old && q)) =
       ap (λ (bs : List (List ℕ)). every (map in-range bs)) pages-were ∙ every-append in-range (before i f) (old ∷ behind i f) in
-      order-after ∙ middle p (in-range old) q (sym w ∙ and-right (whole-pages f) (every (map in-range (pages f))) o)
+      order-after ∙ middle p (in-range old) q (sym w ∙ and-right (whole f) (every (map in-range (pages f))) o)
     where
       middle : (a b c : Bool) → (a && (b && c)) ≡ true → (a && c) ≡ true
       middle true true c h = h

@@ -11,10 +11,11 @@ use lib.ListN.{length, length-append}
 use lib.Seq.{getD-at}
 use Rattle.words.proofs.Tests.{and-left}
 use Rattle.fields.specs.Fields.{every}
+use Rattle.fields.proofs.Every.{every-append}
 use Rattle.page_file.specs.Layout.{page-number, departure, sealed-page}
 use Rattle.page_file.specs.File.{of-stay, lacks, running, all-on, one-day, stay-in-order, named}
 use Rattle.page_file.specs.Calls.{seal-number, seal-file, page-of}
-use Rattle.page_file.proofs.Pages.{every-append, running-append, one-day-at, named-running, in-order-holds}
+use Rattle.page_file.proofs.Pages.{running-append, one-day-at, named-running, in-order-holds}
 use Rattle.claims_file.specs.Claims.{before, behind, stay-fits, Seals}
 use Rattle.claims_file.proofs.Reading.{number-is, departure-is}
 use Rattle.claims_file.proofs.Opening.{page-opens}

@@ -7,6 +7,7 @@ ghost use lib.Seq.{sets};
 ghost use Rattle.words.specs.Bytes;
 ghost use Rattle.words.specs.Bytes.{little, number, numbers, part};
 ghost use Rattle.fields.specs.Fields;
+ghost use Rattle.fields.specs.Fields.{checked, check-holds};
 
 // The first k bytes of s to the front of an output. Every other byte stays.
 pub fn copy(s: &[u8], k: usize, out: &mut [u8])
@@ -62,7 +63,7 @@ pub fn get(s: &[u8], at: usize, k: usize) -> u64
     n
 }
 
-pub fn word(s: &[u8], at: usize) -> u32
+fn word(s: &[u8], at: usize) -> u32
     requires { ⌜ at + 4 ≤ length (now s) ⌝ }
     ensures { λ r. ⌜ r ≡ number (part at 4 (now (s .entry))) ⌝ }
 {
@@ -84,7 +85,7 @@ pub fn cells(s: &[u8], at: usize) -> [u16; 16]
 }
 
 // The sum modulo 2^32 of the first 127 words.
-pub fn check(s: &[u8]) -> u32
+fn check(s: &[u8]) -> u32
     requires { ⌜ 508 ≤ length (now s) ⌝ }
     ensures { λ r. ⌜ r ≡ Fields.check (now (s .entry)) ⌝ }
 {
@@ -96,6 +97,25 @@ pub fn check(s: &[u8]) -> u32
         i += 1;
     }
     sum
+}
+
+// The check of a block's first 508 bytes, written behind them.
+pub fn put_check(block: &mut [u8])
+    requires { ⌜ length (now block) ≡ 512 ⌝ }
+    ensures { λ _. ⌜ now (block .exit) ≡ checked (take 508 (now (block .entry))) ⌝ }
+{
+    let sum = check(block);
+    put(block, 508, 4, sum as u64);
+}
+
+// Whether a block's last four bytes are its check.
+pub fn check_holds(block: &[u8]) -> bool
+    requires { ⌜ length (now block) ≡ 512 ⌝ }
+    ensures { λ r. ⌜ r ≡ check-holds (now (block .entry)) ⌝ }
+{
+    let stored = word(block, 508);
+    let sum = check(block);
+    stored == sum
 }
 
 // Whether k bytes are all zero. Each of them is looked at.

@@ -1,28 +1,15 @@
 -- The layout rules one by one: a block that obeys all obeys each, and one broken rule breaks all.
-use mathlib.Core.Path.{_≡_, refl, sym}
-use mathlib.Core.Bool.{Bool, true, false, _&&_, true≢false, and-true, and-assoc}
+use mathlib.Core.Path.{_≡_, sym}
+use mathlib.Core.Bool.{Bool, true, false, _&&_, and-true, and-assoc}
 use mathlib.Core.List.{List, [], _∷_}
-use Prim.Native.Nat.{ℕ, zero, suc, _≤_}
+use Prim.Native.Nat.{ℕ, _≤_}
 use borrow.Author.Tests.{eqb-true, leb-true}
 use lib.ListN.{length, getD}
 use Rattle.scope.specs.Limits.{most-text}
 use Rattle.layout.specs.Block.{read}
 use Rattle.fields.specs.Fields.{every}
+use Rattle.fields.proofs.Every.{every-at, every-not}
 use Rattle.layout.specs.Rules.{rules, well-laid}
-
-every-at : (l : List Bool) → every l ≡ true → (i : ℕ) → getD l i true ≡ true
-unfolding every
-every-at [] e i = refl
-every-at (true ∷ l) e zero = refl
-every-at (true ∷ l) e (suc i) = every-at l e i
-every-at (false ∷ l) e i = absurd (true≢false (sym e))
-
-every-not : (l : List Bool) (i : ℕ) → getD l i true ≡ false → every l ≡ false
-unfolding every
-every-not [] i e = e
-every-not (true ∷ l) zero e = absurd (true≢false e)
-every-not (true ∷ l) (suc i) e = every-not l i e
-every-not (false ∷ l) i e = refl
 
 -- rule i of a block that obeys them
 pub rule : (s : List ℕ) (i : ℕ) → well-laid s ≡ true → getD (rules s) i true ≡ true

@@ -1,30 +1,27 @@
 -- Bytes that obey the layout rules are the block of what is read from them: field by field they are what `body` writes, and the check is right.
 -- And what is read from them is fine to keep.
-use mathlib.Core.Path.{_≡_, refl, sym, ap, _∙_}
-use mathlib.Core.Bool.{Bool, true, false, not, _||_, true≢false}
+use mathlib.Core.Path.{_≡_, refl, sym}
+use mathlib.Core.Bool.{true}
 use mathlib.Core.List.{List, [], _∷_}
-use Prim.Native.Nat.{ℕ, _+_, _%_, _≤_, _<_}
+use Prim.Native.Nat.{ℕ, _+_, _%_, _≤_}
 use lib.Dec.{lit<, lit≤, eqb}
 use borrow.Author.Tests.{eq-eqb, eqb-true, leb-true}
-use lib.ListN.{length, take, drop, getD, replicate, take-append-drop}
-use lib.Seq.{take-all, take-suc, length-take-le}
+use lib.ListN.{length, take, getD, replicate}
+use lib.Seq.{take-suc}
 use Rattle.scope.specs.Limits.{most-data, most-text}
 use Rattle.words.specs.Bytes.{little, number, Row, part}
+use Rattle.words.proofs.Tests.{or-right}
 use Rattle.words.proofs.Rows.{Below}
 use Rattle.words.proofs.Bytes.{little-number}
 use Rattle.words.proofs.Parts.{part-row, grow}
-use Rattle.fields.specs.Fields.{all-zero, check}
-use Rattle.fields.proofs.Reading.{check-front}
+use Rattle.fields.specs.Fields.{all-zero}
+use Rattle.fields.proofs.Checked.{check-taken}
 use Rattle.fields.proofs.Zeros.{all-zero-zeros, all-zero-behind}
 use Rattle.layout.specs.Block.{body, block-of, read}
 use Rattle.layout.specs.Rules.{phase-length, rules, well-laid}
 use Rattle.layout.specs.Laws.{Fine}
 use Rattle.layout.proofs.RegisterBytes.{bytes-back, at-good}
 use Rattle.layout.proofs.Obeying.{rule, laid-long}
-
-or-right : (b : Bool) {c : Bool} → b ≡ true → (not b || c) ≡ true → c ≡ true
-or-right true e h = h
-or-right false e h = absurd (true≢false (sym e))
 
 module _ (s : List ℕ) (h : Below 256 s) (w : well-laid s ≡ true) where
   long : length s ≡ 512
@@ -54,17 +51,9 @@ module _ (s : List ℕ) (h : Below 256 s) (w : well-laid s ≡ true) where
       let g160 = grow s 144 16 {f = part 144 16 s} g144 refl in
       grow s 160 348 g160 (zeros 160 348 (lit≤ tt) (rule s 8 w))
 
-  check-is : check (body (read s)) ≡ number (part 508 4 s)
-  unfolding rules
-  check-is =
-      ap check body-front
-      ∙ sym (check-front (take 508 s) (drop 508 s) (length-take-le 508 s (rw long (lit≤ tt))))
-      ∙ ap check (take-append-drop 508 s)
-      ∙ sym (eqb-true (number (part 508 4 s)) (check s) (rule s 9 w))
-
   pub block-read : block-of (read s) ≡ s
-  unfolding block-of
-  block-read = grow s 508 4 body-front (ap (little 4) check-is ∙ word 508 4 (lit≤ tt)) ∙ take-all 512 s (rw long (lit≤ tt))
+  unfolding block-of rules
+  block-read = check-taken s (record { long = long; below = h }) (rule s 9 w) body-front
 
   pub read-fine : Fine (read s)
   unfolding rules read

@@ -1,9 +1,9 @@
 -- What is fine to keep is read back from its block as it was: each field stands at its place, and its bytes determine it. Every layout rule
 -- holds of the block.
-use mathlib.Core.Path.{_≡_, refl, sym, ap, _∙_}
+use mathlib.Core.Path.{_≡_, refl, ap, _∙_}
 use mathlib.Core.Bool.{Bool, true, false, not, _||_}
 use mathlib.Core.List.{List, [], _∷_, _++_, append-assoc, append-nil}
-use Prim.Native.Nat.{ℕ, zero, suc, _+_, _≤_, _<_}
+use Prim.Native.Nat.{ℕ, zero, suc, _+_, _≤_}
 use native.Mathlib.Nat.{lt-of-le-of-lt}
 use native.Mathlib.Omega.{arith}
 use lib.Dec.{lit<, eqb}
@@ -13,8 +13,8 @@ use Rattle.words.specs.Bytes.{little, number, Row, part, joined}
 use Rattle.words.proofs.Rows.{Below, zeros-row, row-append}
 use Rattle.words.proofs.Bytes.{little-long, little-row, number-little}
 use Rattle.words.proofs.Parts.{At, down, here}
-use Rattle.fields.specs.Fields.{check}
-use Rattle.fields.proofs.Reading.{check-lt, check-front}
+use Rattle.fields.specs.Fields.{check, checked, check-holds}
+use Rattle.fields.proofs.Checked.{check-written}
 use Rattle.fields.proofs.Zeros.{zeros-all-zero, behind-all-zero}
 use Rattle.layout.specs.Block.{Suspended, registers-bytes, registers-at, body, block-of, read}
 use Rattle.layout.specs.Rules.{rules, well-laid}
@@ -51,13 +51,13 @@ module _ (k : Suspended) (f : Fine k) where
 
   -- 512 bytes
   pub block-row : Row 512 256 (block-of k)
-  unfolding block-of
+  unfolding block-of checked
   block-row = row-append 256 508 4 body-row (little-row 4 (check (body k)))
 
   at0 : At (block-of k) 0
       ((k .phase ∷ []) ∷ replicate 3 0 ∷ little 4 (k .ad) ∷ little 4 (k .text) ∷ replicate 4 0 ∷ registers-bytes (k .registers) ∷ k .sum .hash
       ∷ k .sum .pending ∷ replicate 348 0 ∷ little 4 (check (body k)) ∷ [])
-  unfolding block-of body
+  unfolding block-of checked body
   at0 =
       record {
         is = regroup (k .phase ∷ []) (replicate 3 0) (little 4 (k .ad)) (little 4 (k .text)) (replicate 4 0) (registers-bytes (k .registers))
@@ -75,7 +75,6 @@ module _ (k : Suspended) (f : Fine k) where
     in-128 : part 128 16 (block-of k) ≡ k .sum .hash
     in-144 : part 144 16 (block-of k) ≡ k .sum .pending
     in-160 : part 160 348 (block-of k) ≡ replicate 348 0
-    in-508 : part 508 4 (block-of k) ≡ little 4 (check (body k))
 
   places : Places
   places =
@@ -87,7 +86,6 @@ module _ (k : Suspended) (f : Fine k) where
       let d128 = down d16 112 (good-row (k .registers) (f .registers-good) .long) in
       let d144 = down d128 16 (f .hash-block .long) in
       let d160 = down d144 16 (f .pending-block .long) in
-      let d508 = down d160 348 (zeros-long 348) in
       record {
         phase = ap (λ (l : List ℕ). getD l 0 0) (at0 .is);
         in-1 = here d1 3 (zeros-long 3);
@@ -98,7 +96,6 @@ module _ (k : Suspended) (f : Fine k) where
         in-128 = here d128 16 (f .hash-block .long);
         in-144 = here d144 16 (f .pending-block .long);
         in-160 = here d160 348 (zeros-long 348);
-        in-508 = here d508 4 (little-long 4 (check (body k)));
       }
 
   -- the registers, from the bytes that list them
@@ -118,10 +115,9 @@ module _ (k : Suspended) (f : Fine k) where
         sum = record { hash = places .in-128 i; pending = places .in-144 i };
       }
 
-  check-block : number (part 508 4 (block-of k)) ≡ check (block-of k)
+  check-block : check-holds (block-of k) ≡ true
   unfolding block-of
-  check-block =
-      ap number (places .in-508) ∙ number-little 4 (check (body k)) (check-lt (body k)) ∙ sym (check-front (body k) (little 4 (check (body k))) (body-row .long))
+  check-block = check-written (body k) (body-row .long)
 
   text-rule : (not (eqb (k .phase) 0) || eqb (k .text) 0) ≡ true
   text-rule = go (eqb (k .phase) 0) refl
@@ -144,4 +140,4 @@ module _ (k : Suspended) (f : Fine k) where
       (rw (places .in-1) (zeros-all-zero 3))
       (rw (places .in-12) (zeros-all-zero 4))
       (rw (places .in-160) (zeros-all-zero 348))
-      (eq-eqb _ _ check-block))
+      check-block)

@@ -5,7 +5,7 @@ use Prim.Native.Nat.{ℕ}
 use mathlib.Core.List.{List, [], _∷_, _++_}
 use lib.ListN.{getD, replicate}
 use Rattle.words.specs.Bytes.{little, number, littles, numbers, part}
-use Rattle.fields.specs.Fields.{check}
+use Rattle.fields.specs.Fields.{checked}
 use Rattle.cipher.specs.Registers.{Registers}
 use Rattle.digest.specs.Sum.{Sum}
 
@@ -50,7 +50,7 @@ body k =
 
 -- and 508-511 check
 unfoldable pub block-of : Suspended → List ℕ
-block-of k = body k ++ little 4 (check (body k))
+block-of k = checked (body k)
 
 -- what is read from bytes
 unfoldable pub read : List ℕ → Suspended

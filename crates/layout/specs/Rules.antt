@@ -7,8 +7,8 @@ use lib.Dec.{eqb, leb}
 use lib.ListN.{length, drop}
 use Rattle.scope.specs.Limits.{most-data, most-text}
 use Rattle.scope.specs.Refusals.{pick}
-use Rattle.words.specs.Bytes.{number, part}
-use Rattle.fields.specs.Fields.{every, all-zero, check}
+use Rattle.words.specs.Bytes.{part}
+use Rattle.fields.specs.Fields.{every, all-zero, check-holds}
 use Rattle.layout.specs.Block.{read}
 
 -- "the phase's length"
@@ -33,7 +33,7 @@ rules b =
     ∷ all-zero (part 12 4 b)
     ∷ all-zero (part 160 348 b)
     -- "508-511 check"
-    ∷ eqb (number (part 508 4 b)) (check b)
+    ∷ check-holds b
     ∷ []
 
 -- whether bytes obey all of them

@@ -29,8 +29,7 @@ pub fn well_laid(block: &[u8]) -> bool
     let zero1 = fields::all_zero(block, 1, 3);
     let zero12 = fields::all_zero(block, 12, 4);
     let zero160 = fields::all_zero(block, 160, 348);
-    let stored = fields::word(block, 508);
-    let sum = fields::check(block);
+    let sum = fields::check_holds(block);
     (phase <= 1)
         & (ad <= scope::MOST_DATA)
         & (text <= scope::MOST_TEXT)
@@ -39,5 +38,5 @@ pub fn well_laid(block: &[u8]) -> bool
         & zero1
         & zero12
         & zero160
-        & (stored == sum)
+        & sum
 }

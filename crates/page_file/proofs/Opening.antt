@@ -11,12 +11,14 @@ use Rattle.scope.specs.Limits.{most-page-text, last-day}
 use Rattle.words.specs.Bytes.{part}
 use Rattle.words.proofs.Tests.{and-left, and-right}
 use Rattle.fields.specs.Fields.{every}
+use Rattle.fields.specs.Blocks.{blocks}
+use Rattle.fields.proofs.Blocks.{cut-long, cut-at}
 use Rattle.page_file.specs.Layout.{text-length, departure}
 use Rattle.page_file.specs.File.{pages, in-range, in-order, of-stay, lacks, running, one-day, stay-in-order}
 use Rattle.page_file.specs.Calls.{page-open-number, page-of, open-number}
 use Rattle.page_file.specs.Inner.{Surveyed}
 use Rattle.page_file.specs.declared.Seen.{Seen}
-use Rattle.page_file.proofs.Pages.{cut-long, cut-at, lacks-running, named-running}
+use Rattle.page_file.proofs.Pages.{lacks-running, named-running}
 
 -- whether a stay is in order, by what is counted
 in-order-is : (n : ℕ) (bs : List (List ℕ)) → stay-in-order n bs ≡ (ltb n (length bs) && running 0 bs && one-day bs)
@@ -88,14 +90,14 @@ module _ (key stay : List ℕ) (n : ℕ) (f : List ℕ) (room : ℕ) where
             run = sym (v .run) ∙ and-right (ltb n (s .count)) (s .running) (and-left (ltb n (s .count) && s .running) (s .dated) c)
 
             pages-long : length (pages f) ≡ length f / 512
-            unfolding pages
+            unfolding blocks
             pages-long = cut-long (length f / 512) f
 
             pub inside : 512 * s .place + 512 ≤ length f
             inside = omega (arith, pages-long, v .placed enough .0)
 
             page-at : getD (pages f) (s .place) [] ≡ part (512 * s .place) 512 f
-            unfolding pages
+            unfolding blocks
             page-at = cut-at (length f / 512) (s .place) f (omega (arith, inside))
 
             pub page-found : part (512 * s .place) 512 f ≡ page-of stay n f

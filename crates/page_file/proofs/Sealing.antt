@@ -1,15 +1,13 @@
--- The numbers of a seal by what it finds, what a refused one leaves, and the file around a page that was lent on.
-use mathlib.Core.Path.{_≡_, sym, ap, ap₂, _∙_}
-use mathlib.Core.List.{List, [], _++_, append-assoc, append-nil}
-use Prim.Native.Nat.{ℕ, _+_, _-_, _*_, _/_, _%_, _≤_, _<_}
+-- The numbers of a seal by what it finds, and what a refused one leaves.
+use mathlib.Core.Path.{_≡_, sym, _∙_}
+use mathlib.Core.List.{List}
+use Prim.Native.Nat.{ℕ, _*_, _/_, _%_, _≤_, _<_}
 use native.Mathlib.Omega.{arith}
 use borrow.Author.Tests.{eq-eqb, ne-eqb, lt-ltb, le-ltb, le-leb, lt-leb}
-use borrow.Rule.Slice.PartMut.{putMid}
-use lib.ListN.{length, take, drop, length-drop, drop-of-length-le}
-use lib.Seq.{take-all, drop-drop}
+use lib.ListN.{length}
 use Rattle.scope.specs.Limits.{most-page-text, last-day}
+use Rattle.fields.specs.Blocks.{replaced}
 use Rattle.page_file.specs.Layout.{sealed-page}
-use Rattle.page_file.specs.File.{replaced}
 use Rattle.page_file.specs.Calls.{seal-number, seal-file}
 
 module _ (key stay : List ℕ) (n day : ℕ) (t f : List ℕ) (i : ℕ) where
@@ -83,17 +81,3 @@ module _ (key stay : List ℕ) (n day : ℕ) (t f : List ℕ) (i : ℕ) where
               pub in-place : {g : List ℕ} → g ≡ replaced i (sealed-page key stay n day t) f → (0 ≡ seal-number key stay day t f i) × (g ≡ seal-file key stay n day t f i)
               unfolding seal-file
               in-place e = (sym accepted, e ∙ rw accepted)
-
--- what was lent from a place on is back, with p in its front
-pub lent-back : (f p ys : List ℕ) (i : ℕ) → 512 * i + 512 ≤ length f → ys ≡ p ++ drop 512 (take (length f - 512 * i) (drop (512 * i) f))
-    → putMid (512 * i) (length f - 512 * i) f ys ≡ replaced i p f
-unfolding replaced
-lent-back f p ys i h e =
-    let a = 512 * i in
-    let l : length (drop a f) ≡ length f - a = length-drop a f in
-    let behind : drop (length f - a) (drop a f) ≡ [] = drop-of-length-le (drop a f) {i = length f - a} (omega arith) in
-    ap₂ (λ (x y : List ℕ). take a f ++ (x ++ y))
-    (e ∙ ap (λ (x : List ℕ). p ++ drop 512 x) (take-all (length f - a) (drop a f) (omega arith)) ∙ ap (λ (x : List ℕ). p ++ x) (drop-drop 512 a f))
-    behind
-    ∙ ap (λ (x : List ℕ). take a f ++ x) (append-nil (p ++ drop (a + 512) f))
-    ∙ sym (append-assoc (take a f) p (drop (a + 512) f))

@@ -13,11 +13,14 @@ use Rattle.scope.specs.Refusals.{pick}
 use Rattle.words.specs.Bytes.{number, same, part}
 use Rattle.words.proofs.Parts.{part-part}
 use Rattle.fields.specs.Fields.{every}
+use Rattle.fields.specs.Blocks.{cut}
+use Rattle.fields.proofs.Every.{every-append}
+use Rattle.fields.proofs.Blocks.{cut-long}
 use Rattle.page_file.specs.Layout.{stay-of, page-number, departure, text-length}
-use Rattle.page_file.specs.File.{cut, in-range, of-stay, running, all-on, one-day}
+use Rattle.page_file.specs.File.{in-range, of-stay, running, all-on, one-day}
 use Rattle.page_file.specs.Inner.{Surveyed}
 use Rattle.page_file.specs.declared.Seen.{Seen}
-use Rattle.page_file.proofs.Pages.{cut-long, of-stay-append, every-append, all-on-append, running-append}
+use Rattle.page_file.proofs.Pages.{of-stay-append, all-on-append, running-append}
 
 -- ---- what a header says, read from the file
 

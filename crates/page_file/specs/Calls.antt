@@ -9,9 +9,10 @@ use Rattle.scope.specs.Limits.{most-page-text, last-day}
 use Rattle.scope.specs.Refusals.{refuse, granted, key-length, iv-length, too-long, short-output, bad-tag, day-range, bad-file, bad-stay}
 use Rattle.words.specs.Bytes.{same}
 use Rattle.fields.specs.Fields.{all-zero}
+use Rattle.fields.specs.Blocks.{whole, replaced}
 use Rattle.page.specs.Page.{cipher-of, tag-for}
 use Rattle.page_file.specs.Layout.{text-length, cipher-in, tag-in, iv-of, ad-of, sealed-page}
-use Rattle.page_file.specs.File.{pages, replaced, whole-pages, in-order, of-stay, stay-in-order, named}
+use Rattle.page_file.specs.File.{pages, in-order, of-stay, stay-in-order, named}
 
 -- ---- seal
 
@@ -22,9 +23,9 @@ seal-number key stay day t f i =
     refuse (not (eqb (length key) 32)) key-length
     (refuse (not (eqb (length stay) 12)) iv-length
     (refuse (ltb most-page-text (length t)) too-long
-    (refuse (ltb last-day day) day-range (refuse (not (whole-pages f) || leb (length f) (512 * i)) bad-file 0))))
+    (refuse (ltb last-day day) day-range (refuse (not (whole f) || leb (length f) (512 * i)) bad-file 0))))
 
--- "Each page is sealed straight into its place in the lent file": the file afterwards
+-- "Each page is sealed straight into its place in the lent file, place i from byte 512 times i, and no other page changes": the file afterwards
 unfoldable pub seal-file : (key stay : List ℕ) → (n day : ℕ) → (text file : List ℕ) → (place : ℕ) → List ℕ
 seal-file key stay n day t f i = granted (seal-number key stay day t f i) (replaced i (sealed-page key stay n day t) f) f
 

@@ -1,41 +1,29 @@
 -- A page file (document 02, S-1): "A file is pages of 512 bytes". Its pages in file order, what it says of a stay, and when it breaks a rule.
-use Prim.Native.Nat.{ℕ, zero, suc, _+_, _*_, _/_, _%_}
+use Prim.Native.Nat.{ℕ, _+_}
 use mathlib.Core.Bool.{Bool, true, not, _&&_}
-use mathlib.Core.List.{List, [], _∷_, _++_, map}
+use mathlib.Core.List.{List, [], _∷_, map}
 use lib.Dec.{eqb, leb}
-use lib.ListN.{length, take, drop}
 use Rattle.scope.specs.Limits.{most-page-text, last-day}
 use Rattle.scope.specs.Refusals.{pick}
 use Rattle.words.specs.Bytes.{same}
 use Rattle.fields.specs.Fields.{every}
+use Rattle.fields.specs.Blocks.{blocks, whole}
 use Rattle.page_file.specs.Layout.{stay-of, page-number, departure, text-length}
 
--- the first n pages of it, one behind the other
-unfoldable pub cut : ℕ → List ℕ → List (List ℕ)
-cut zero f = []
-cut (suc n) f = take 512 f ∷ cut n (drop 512 f)
-
 -- the pages of a file, in file order
-unfoldable pub pages : (file : List ℕ) → List (List ℕ)
-pages f = cut (length f / 512) f
-
--- a page in its place ("place i from byte 512 times i"), "and no other page changes"
-unfoldable pub replaced : (place : ℕ) → (page file : List ℕ) → List ℕ
-replaced i b f = take (512 * i) f ++ b ++ drop (512 * i + 512) f
+abbrev pub pages : (file : List ℕ) → List (List ℕ)
+pages f = blocks f
 
 -- ---- 13
-
--- "A file length that isn't a multiple of 512"
-abbrev pub whole-pages : (file : List ℕ) → Bool
-whole-pages f = eqb (length f % 512) 0
 
 -- not "a stored length over 474", nor "a stored day out of range"
 unfoldable pub in-range : (page : List ℕ) → Bool
 in-range b = leb (text-length b) most-page-text && leb (departure b) last-day
 
--- "Stored lengths and days are tested by opening only, in every page of the file; an all-zero page counts like any other"
+-- not "A file length that isn't a multiple of 512"; and "Stored lengths and days are tested by opening only, in every page of the file; an all-zero page
+-- counts like any other"
 unfoldable pub in-order : (file : List ℕ) → Bool
-in-order f = whole-pages f && every (map in-range (pages f))
+in-order f = whole f && every (map in-range (pages f))
 
 -- ---- 14
 

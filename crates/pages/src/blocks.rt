@@ -1,4 +1,5 @@
 // Blocks that resume refuses: with one layout rule broken and all others kept, and with a state that no stay of the key leads to.
+ghost use mathlib.Core.Path.{_≡_};
 ghost use Prim.Native.Nat.{_+_, _≤_};
 ghost use lib.ListN.{length};
 use crate::pieces;
@@ -35,10 +36,9 @@ fn line(name: &[u8], answer: u64) {
 
 // Resume's answer for bytes with this check.
 fn checked(key: &[u8], block: &mut [u8]) -> u64
-    requires { ⌜ 512 ≤ length (now block) ⌝ }
+    requires { ⌜ length (now block) ≡ 512 ⌝ }
 {
-    let check = fields::check(block);
-    fields::put(block, 508, 4, check as u64);
+    fields::put_check(block);
     let r = suspend::resume(key, block);
     r.answer
 }

@@ -18,7 +18,7 @@ refuse c n later = pick c n later
 abbrev pub granted {ℓ} : {A : Type ℓ} → ℕ → A → A → A
 granted n given kept = pick (eqb n 0) given kept
 
--- 1 wrong key: the key is not 32 bytes
+-- 1 wrong key: the key is not 32 bytes; for a key store (document 02), either of two keys is not
 abbrev pub key-length : ℕ
 key-length = 1
 
@@ -30,11 +30,11 @@ iv-length = 2
 abbrev pub too-long : ℕ
 too-long = 3
 
--- 4 short page: the lent output is shorter than what must be written
+-- 4 short page: the lent output is shorter than what must be written; for a key store, no block is empty
 abbrev pub short-output : ℕ
 short-output = 4
 
--- 5 seal broken: the tag differs
+-- 5 seal broken: the tag differs, of a page or of a key in a key store
 abbrev pub bad-tag : ℕ
 bad-tag = 5
 
@@ -46,7 +46,8 @@ no-origin = 6
 abbrev pub out-of-phase : ℕ
 out-of-phase = 7
 
--- 8 torn block: a suspended session's block (document 01: a parked block) breaks a layout rule
+-- 8 torn block: a suspended session's block (document 01: a parked block) breaks a layout rule; document 02: a key store's length or block does, or a
+-- number stands in it twice
 abbrev pub bad-block : ℕ
 bad-block = 8
 
@@ -78,3 +79,11 @@ bad-stay = 14
 -- 15: a step back at a count of 0, by itself or in a run
 abbrev pub before-start : ℕ
 before-start = 15
+
+-- 16: a number that is present in a key store, with mark 1 or 2, at storing
+abbrev pub number-taken : ℕ
+number-taken = 16
+
+-- 17: a number that is absent from a key store, or erased there, at fetching and erasing
+abbrev pub no-key : ℕ
+no-key = 17

@@ -34,6 +34,10 @@ pub const BAD_STAY: u64 = 14;
 
 pub const BEFORE_START: u64 = 15;
 
+pub const NUMBER_TAKEN: u64 = 16;
+
+pub const NO_KEY: u64 = 17;
+
 // Limits: bytes of data and of text in a session, and blocks drawn.
 pub const MOST_DATA: u64 = 65535;
 

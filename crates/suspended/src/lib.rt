@@ -106,8 +106,7 @@ pub fn block_of(f: Suspended) -> [u8; 512]
     fields::put(&mut block, 8, 4, f.text);
     put_registers(&mut block, 16, registers);
     put_held(&mut block, 128, held);
-    let sum = fields::check(&block);
-    fields::put(&mut block, 508, 4, sum as u64);
+    fields::put_check(&mut block);
     block
 }
 

@@ -4,6 +4,7 @@ pub mod SessionBytes
 pub mod Sessions
 pub mod Pages
 pub mod Files
+pub mod Keys
 pub mod Cipher
 pub mod Dates
 pub mod Inner

@@ -15,6 +15,7 @@ ghost use Rattle.start.specs.Machine.{modeOf};
 ghost use Rattle.session.specs.Machine.{sessionOf};
 ghost use Rattle.page.specs.Calls.{seal-number, open-number, open-out};
 ghost use Rattle.page_file.specs.Calls as Files;
+ghost use Rattle.key_store.specs.Calls.{store-number, store-after, erase-number, erase-after};
 ghost use Rattle.calendar.specs.Calendar;
 ghost use Rattle.calendar.specs.Calls.{to-date, to-day};
 ghost use Rattle.calendar.specs.Inner.{Small};
@@ -25,6 +26,7 @@ ghost use Rattle.tulvekas.specs.StateBytes.{state-bytes, state-in, Leave
 ghost use Rattle.tulvekas.specs.SessionBytes.{session-in, Leaves};
 ghost use Rattle.tulvekas.specs.Pages.{seal-answer, seal-writes, seal-writes-tag};
 ghost use Rattle.tulvekas.specs.Files.{file-open-answer, file-open-writes, file-open-length};
+ghost use Rattle.tulvekas.specs.Keys.{keys-fetch-answer, keys-fetch-writes};
 ghost use Rattle.tulvekas.specs.Sessions.{is-session, begin-answer, begin-leaves, data-answer, data-leaves, text-answer, text-leaves, text-writes, finish-answer, finish-leaves, finish-writes-tag, finish-writes-iv, suspend-answer, suspend-writes, resume-answer, resume-leaves, resume-writes};
 ghost use Rattle.tulvekas.specs.Cipher.{mode-named, keystream-answer, keystream-writes, start-answer, start-leaves, run-answer, run-leaves, run-writes, state-of-answer, state-of-leaves, trace-of-bytes, mode-byte, trace-answer, trace-iv, trace-sealed};
 ghost use Rattle.tulvekas.specs.Dates.{reply-answer, reply-writes, date-bytes, date-reply, day-reply, kept-reply};
@@ -172,6 +174,51 @@ pub extern "C" fn tulvekas_file_open(
     fields::copy(&text, k, out);
     fields::put(length, 0, LENGTH_BYTES, k as u64);
     scope::ACCEPTED
+}
+
+// ---- key stores: document 02's shelves
+
+// Stores a stay's key, sealed under the season's key, in the first empty block of the store. Refused: 1 for either key, 2, 8, 16 for a number that is there, 4
+// where no block is empty.
+#[no_mangle]
+pub extern "C" fn tulvekas_keys_store(
+    key: &[u8],
+    iv: &[u8],
+    stay_key: &[u8],
+    store: &mut [u8],
+) -> u64
+    ensures answer { λ r. ⌜ r ≡ store-number (now (key .entry)) (now (iv .entry)) (now («stay_key» .entry)) (now (store .entry)) ⌝ }
+    ensures store { λ _. ⌜ now (store .exit) ≡ store-after (now (key .entry)) (now (iv .entry)) (now («stay_key» .entry)) (now (store .entry)) ⌝ }
+{
+    key_store::store(key, iv, stay_key, store)
+}
+
+// Fetches a stay's key, 32 bytes. Refused: 1, 2, 8, 17 for a number that is absent or erased, 5, 4.
+#[no_mangle]
+pub extern "C" fn tulvekas_keys_fetch(key: &[u8], iv: &[u8], store: &[u8], out: &mut [u8]) -> u64
+    ensures answer { λ r. ⌜ r ≡ keys-fetch-answer (now (key .entry)) (now (iv .entry)) (now (store .entry)) (now (out .entry)) ⌝ }
+    ensures out { λ _. ⌜ now (out .exit) ≡ keys-fetch-writes (now (key .entry)) (now (iv .entry)) (now (store .entry)) (now (out .entry)) ⌝ }
+{
+    let f = key_store::fetch(key, iv, store);
+    let n = f.answer;
+    if n != 0 {
+        return n;
+    }
+    if out.len() < KEY_BYTES {
+        return scope::SHORT_OUTPUT;
+    }
+    let k = f.key;
+    fields::copy(&k, KEY_BYTES, out);
+    scope::ACCEPTED
+}
+
+// Erases a stay's key; it takes none. Refused: 2, 8, 17 for a number that is absent or erased.
+#[no_mangle]
+pub extern "C" fn tulvekas_keys_erase(iv: &[u8], store: &mut [u8]) -> u64
+    ensures answer { λ r. ⌜ r ≡ erase-number (now (iv .entry)) (now (store .entry)) ⌝ }
+    ensures store { λ _. ⌜ now (store .exit) ≡ erase-after (now (iv .entry)) (now (store .entry)) ⌝ }
+{
+    key_store::erase(iv, store)
 }
 
 // ---- states in bytes

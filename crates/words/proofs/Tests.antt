@@ -2,7 +2,7 @@
 -- same.
 use mathlib.Core.Path.{_≡_, refl, sym, subst, ap₂}
 use mathlib.Core.Logic.{⊎-elim}
-use mathlib.Core.Bool.{Bool, true, false, _&&_, _||_}
+use mathlib.Core.Bool.{Bool, true, false, not, _&&_, _||_, true≢false}
 use mathlib.Core.List.{List, [], _∷_}
 use Prim.Native.Nat.{ℕ, zero, suc, _<_}
 use native.Mathlib.Omega.{arith}
@@ -23,6 +23,16 @@ and-right false b e = cc
 pub neither : (a b : Bool) → (a || b) ≡ false → (a ≡ false) × (b ≡ false)
 neither true b e = (e, cc)
 neither false b e = (refl, e)
+
+-- the second of two of which one holds, where the first does not
+pub or-right : (b : Bool) {c : Bool} → b ≡ true → (not b || c) ≡ true → c ≡ true
+or-right true e h = h
+or-right false e h = absurd (true≢false (sym e))
+
+-- one that cannot hold does not
+pub refuted : (t : Bool) → ¬ (t ≡ true) → t ≡ false
+refuted true h = absurd (h refl)
+refuted false h = refl
 
 -- the same of tests that antt computes
 pub both-left : (a b : Bool) → T (a && b) → T a

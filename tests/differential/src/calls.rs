@@ -5,6 +5,7 @@ use crate::block::Block;
 use crate::calendar::{self, Date};
 use crate::cipher::{self, iv as iv_of, Direction, Key, Mode, State, MOST_BLOCKS};
 use crate::keeping;
+use crate::key_store;
 use crate::page;
 use crate::page_file;
 use crate::refusal::{require, Refusal};
@@ -218,4 +219,22 @@ pub fn file_open(key: &[u8], stay: &[u8], page: u32, file: &[u8], out: &mut [u8]
     out.copy_from_slice(&text);
     length[..LENGTH_BYTES].copy_from_slice(&(len as u64).to_le_bytes());
     Ok(())
+}
+
+/// `tulvekas_keys_store`: 1, 2, 8, 16, 4.
+pub fn keys_store(key: &[u8], iv: &[u8], stay_key: &[u8], store: &mut [u8]) -> Answer<()> {
+    key_store::store(key, iv, stay_key, store)
+}
+
+/// `tulvekas_keys_fetch`: 1, 2, 8, 17, 5, 4.
+pub fn keys_fetch(key: &[u8], iv: &[u8], store: &[u8], out: &mut [u8]) -> Answer<()> {
+    let fetched = key_store::fetch(key, iv, store)?;
+    room(out.len(), fetched.len())?;
+    out[..fetched.len()].copy_from_slice(&fetched);
+    Ok(())
+}
+
+/// `tulvekas_keys_erase`: 2, 8, 17.
+pub fn keys_erase(iv: &[u8], store: &mut [u8]) -> Answer<()> {
+    key_store::erase(iv, store)
 }

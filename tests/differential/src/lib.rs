@@ -2,8 +2,8 @@
 //!
 //! "The paper" is document 001: Ekdahl, Johansson, Maximov, Yang, "A new SNOW stream cipher called SNOW-V". "Document 01" is the
 //! contract of the library: refusals and their orders, sessions, the suspended block, trace and the program. "Document 02" is what was
-//! asked for later: the page file, states that count their blocks, dates, and keeping by calendar months. Where the first two differ about the
-//! cipher, the paper decides. The form of a session in bytes, which they leave open, is taken from the definition that the library's contracts name.
+//! asked for later: the page file, states that count their blocks, dates, keeping by calendar months, and the key store. Where the first two differ
+//! about the cipher, the paper decides. The form of a session in bytes, which they leave open, is taken from the definition that the library's contracts name.
 //!
 //! Each module renders one part of them, as plainly as it stands there: cells of 16 bits, one clock at a time, GHASH bit by bit.
 //! Nothing here hides the time it takes.
@@ -20,6 +20,8 @@ pub mod cipher;
 pub mod ffi;
 pub mod ghash;
 pub mod keeping;
+pub mod key_store;
+pub mod keys;
 pub mod lfsr;
 pub mod page;
 pub mod page_file;

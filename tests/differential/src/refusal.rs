@@ -4,13 +4,13 @@
 #[derive(Clone, Copy, Debug, PartialEq, Eq)]
 #[repr(u64)]
 pub enum Refusal {
-    /// "wrong key": key not 32 bytes.
+    /// "wrong key": key not 32 bytes; of a key store, the season's or the stay's (S-6).
     KeyLength = 1,
     /// "wrong stay number": IV not 16 bytes.
     IvLength = 2,
     /// "book full": associated data over 65,535 bytes or text over 1,048,576, counted over the session.
     TooLong = 3,
-    /// "short page": lent output shorter than what must be written.
+    /// "short page": lent output shorter than what must be written; a key store without an empty block (S-6).
     ShortOutput = 4,
     /// "seal broken": tag differs.
     BadTag = 5,
@@ -18,7 +18,7 @@ pub enum Refusal {
     NoOrigin = 6,
     /// "late entry": call out of phase.
     OutOfPhase = 7,
-    /// "torn block": a suspended block breaks a layout rule.
+    /// "torn block": a suspended block breaks a layout rule; a key store does, or has a number twice (S-6).
     BadBlock = 8,
     /// "too far": block count over 65,538; a step, run or piece of text that would lead past it (S-2).
     CountTooHigh = 9,
@@ -34,6 +34,10 @@ pub enum Refusal {
     BadStay = 14,
     /// A step or run back past the start, where the count is 0 (S-2).
     BeforeStart = 15,
+    /// A key is to be stored for a number that the key store has, held or erased (S-6).
+    NumberTaken = 16,
+    /// A number that the key store has not, or has erased, is to be fetched or erased (S-6).
+    NoKey = 17,
 }
 
 /// What a call answers: 0 if accepted, else the number of the refusal.

@@ -1,5 +1,5 @@
-//! The reference alone against document 01's trial bookings, document 02's page file, counts, dates and keeping, and both directions of the cipher
-//! against each other.
+//! The reference alone against document 01's trial bookings, document 02's page file, counts, dates, keeping and key store, and both directions of
+//! the cipher against each other.
 
 use reference::block::plus;
 use reference::calendar::{self, Date};
@@ -7,7 +7,7 @@ use reference::cipher::{run, Direction, Key, Mode, Registers, State, MOST_BLOCKS
 use reference::lfsr::{alpha, alpha_inverse, beta, beta_inverse, clock, clock_back};
 use reference::refusal::Refusal;
 use reference::session::Session;
-use reference::{aes, ghash, keeping, page, page_file, suspended, trace};
+use reference::{aes, ghash, keeping, key_store, page, page_file, suspended, trace};
 
 const ZERO: Registers = Registers { a: [0; 16], b: [0; 16], r1: [0; 16], r2: [0; 16], r3: [0; 16] };
 
@@ -290,4 +290,44 @@ fn page_file_layout() {
     assert_eq!(page_file::open(&key, &stay, 0, &file, &mut out), Ok(9));
     file[18] = 2;
     assert_eq!(page_file::open(&key, &stay, 0, &file, &mut out), Err(Refusal::BadFile));
+}
+
+/// The bytes of a block as S-6 lists them, what storing and erasing leave, and S-6's refusals.
+#[test]
+fn key_store_layout() {
+    let (key, iv, stay_key): ([u8; 32], [u8; 16], [u8; 32]) = ([7; 32], std::array::from_fn(|i| i as u8 + 1), [9; 32]);
+    let mut store = [0; 1024];
+    assert_eq!(key_store::store(&key, &iv, &stay_key, &mut store), Ok(()));
+    assert_eq!(store[..16], [1, 0, 0, 0, 0, 0, 0, 0, 0, 0, 0, 0, 0, 0, 0, 0]);
+    assert_eq!(store[16..32], iv);
+    let mut opened = [0; 32];
+    assert_eq!(page::open(&key, &iv, &[], &store[32..64], &store[64..80], &mut opened), Ok(()));
+    assert_eq!(opened, stay_key);
+    assert_eq!(store[80..508], [0; 428]);
+    let words = store[..508].chunks(4).map(|word| u32::from_le_bytes(word.try_into().unwrap()));
+    assert_eq!(store[508..512], words.fold(0, u32::wrapping_add).to_le_bytes());
+    assert_eq!(store[512..], [0; 512]);
+
+    assert_eq!(key_store::fetch(&key, &iv, &store), Ok(stay_key));
+    assert_eq!(key_store::fetch(&stay_key, &iv, &store), Err(Refusal::BadTag));
+    assert_eq!(key_store::fetch(&key, &[0; 16], &store), Err(Refusal::NoKey));
+    assert_eq!(key_store::store(&key, &iv, &stay_key, &mut store), Err(Refusal::NumberTaken));
+    assert_eq!(key_store::store(&key, &iv, &stay_key, &mut []), Err(Refusal::ShortOutput));
+    assert_eq!(key_store::fetch(&key, &iv, &store[1..]), Err(Refusal::BadBlock));
+    let twice = [&store[..512], &store[..512]].concat();
+    assert_eq!(key_store::fetch(&key, &iv, &twice), Err(Refusal::BadBlock));
+
+    assert_eq!(key_store::store(&key, &[0; 16], &stay_key, &mut store), Ok(()));
+    let other = store[512..].to_vec();
+    assert_eq!(key_store::erase(&iv, &mut store), Ok(()));
+    assert_eq!(store[..32], [&[2][..], &[0; 15], &iv].concat());
+    assert_eq!(store[32..508], [0; 476]);
+    // The words 0x04030201, 0x08070605, 0x0c0b0a09 and 0x100f0e0d, and the mark.
+    assert_eq!(store[508..512], 0x2824_201e_u32.to_le_bytes());
+    assert_eq!(store[512..], other);
+    assert_eq!(key_store::fetch(&key, &iv, &store), Err(Refusal::NoKey));
+    assert_eq!(key_store::erase(&iv, &mut store), Err(Refusal::NoKey));
+    assert_eq!(key_store::store(&key, &iv, &stay_key, &mut store), Err(Refusal::NumberTaken));
+    assert_eq!(key_store::store(&key, &[1; 16], &stay_key, &mut store), Err(Refusal::ShortOutput));
+    assert_eq!(key_store::fetch(&key, &[0; 16], &store), Ok(stay_key));
 }

@@ -5,12 +5,12 @@ use reference::calendar::{self, Date};
 use reference::cipher::{run, Direction, Key, Mode, State};
 use reference::refusal::Refusal;
 use reference::session::Session;
-use reference::{keeping, page_file, suspended, trace};
+use reference::{keeping, key_store, page, page_file, suspended, trace};
 use std::path::Path;
 use std::process::Command;
 
 /// examples/run seals, suspends, resumes and opens a page in each language, seals and opens pages of a file and says until when they are kept,
-/// and walks and traces states.
+/// walks and traces states, and stores, fetches and erases keys.
 #[test]
 fn examples() {
     let script = Path::new(env!("CARGO_MANIFEST_DIR")).join("../../examples/run");
@@ -104,4 +104,45 @@ fn output_of_the_states() {
     printed += &format!("count: {}\ntrace: {}\n", state.count, refused(trace::trace(&state, &key).unwrap_err()));
     printed += &format!("no block back: {}\n", refused(run(&mut state, 0, Direction::Back, &mut []).unwrap_err()));
     assert_eq!(include_str!("../../../examples/states.stdout"), printed);
+}
+
+/// What the examples of a key store must print is what the reference gives.
+#[test]
+fn output_of_the_keys() {
+    let (key, numbers) = (key(), [b"2026 stay no. 42", b"2026 stay no. 43", b"2026 stay no. 44"]);
+    let mut store = [0; 3 * 512];
+    let stay_key = |first: u8| -> [u8; 32] { std::array::from_fn(|i| first + i as u8) };
+    key_store::store(&key, numbers[0], &stay_key(42), &mut store).unwrap();
+    key_store::store(&key, numbers[1], &stay_key(143), &mut store).unwrap();
+    let blocks = |store: &[u8]| {
+        let mut printed = String::new();
+        for (place, block) in store.chunks(512).enumerate() {
+            let number = String::from_utf8_lossy(&block[16..32]);
+            let said = ["empty".into(), format!("held, {number}"), format!("erased, {number}")];
+            printed += &format!("block {place}: {}\n", said[usize::from(block[0])]);
+        }
+        printed + &format!("tag of block 0: {}\n", hex(&store[64..80]))
+    };
+    let refused = |refusal: Refusal| format!("refused {}", refusal as u64);
+    let fetch = |key: &[u8], number: &[u8; 16], store: &[u8]| {
+        let said = key_store::fetch(key, number, store).map_or_else(refused, |_| "its key is there".into());
+        format!("{}: {said}\n", String::from_utf8_lossy(number))
+    };
+    let mut printed = blocks(&store) + &fetch(&key, numbers[0], &store) + &fetch(&key, numbers[1], &store);
+    let mut cipher = [0; 9];
+    let fetched = key_store::fetch(&key, numbers[0], &store).unwrap();
+    let tag = page::seal(&fetched, &1_u128.to_le_bytes(), &[], b"Mari Saar", &mut cipher).unwrap();
+    printed += &format!("page: {}\nits tag: {}\n", hex(&cipher), hex(&tag));
+    let mut another = key;
+    another[0] ^= 1;
+    printed += &format!("a number that is not there:\n{}", fetch(&key, numbers[2], &store));
+    printed += &format!("under another season's key:\n{}", fetch(&another, numbers[0], &store));
+    key_store::erase(numbers[0], &mut store).unwrap();
+    printed += &format!("erased:\n{}", blocks(&store) + &fetch(&key, numbers[0], &store) + &fetch(&key, numbers[1], &store));
+    let erased = key_store::erase(numbers[0], &mut store).unwrap_err();
+    let stored = key_store::store(&key, numbers[0], &stay_key(44), &mut store).unwrap_err();
+    printed += &format!("erased or stored again:\nerase: {}\nstore: {}\n", refused(erased), refused(stored));
+    store[2 * 512 + 100] ^= 1;
+    printed += &format!("a bit of block 2 changed:\n{}", fetch(&key, numbers[1], &store));
+    assert_eq!(include_str!("../../../examples/keys.stdout"), printed);
 }

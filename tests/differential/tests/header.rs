@@ -3,15 +3,16 @@
 
 use reference::calendar::{date, Date};
 use reference::refusal::Refusal;
-use reference::{calendar, calls, cipher, keeping, page, page_file, suspended};
+use reference::{calendar, calls, cipher, keeping, key_store, page, page_file, suspended};
 use std::collections::BTreeMap;
 
 const HEADER: &str = include_str!("../../../include/tulvekas.h");
 const DECLARATIONS: &str = include_str!("differential/library.rs");
-const EXAMPLES: [&str; 3] = [
+const EXAMPLES: [&str; 4] = [
     include_str!("../../../examples/seal_by_pieces.c"),
     include_str!("../../../examples/page_file.c"),
     include_str!("../../../examples/states.c"),
+    include_str!("../../../examples/keys.c"),
 ];
 
 /// Each call with its parameters as Rust writes them.
@@ -53,7 +54,7 @@ fn from_c(text: &str) -> String {
 fn calls_are_declared_as_in_the_header() {
     let header = calls_of(&code(HEADER), "uint64_t tulvekas_", from_c);
     let declared = calls_of(DECLARATIONS, "pub fn tulvekas_", str::to_string);
-    assert_eq!(header.len(), 19);
+    assert_eq!(header.len(), 22);
     assert_eq!(declared, header);
 }
 
@@ -79,6 +80,7 @@ fn numbers_are_those_of_the_header() {
         ("LENGTH_BYTES", calls::LENGTH_BYTES as u64),
         ("DATE_BYTES", calls::DATE_BYTES as u64),
         ("DAY_BYTES", calls::DAY_BYTES as u64),
+        ("KEYS_BLOCK_BYTES", key_store::BLOCK_BYTES as u64),
         ("MOST_DATA", page::MOST_DATA),
         ("MOST_TEXT", page::MOST_TEXT),
         ("MOST_PAGE_TEXT", page_file::MOST_PAGE_TEXT as u64),
@@ -103,6 +105,8 @@ fn numbers_are_those_of_the_header() {
         ("BAD_FILE", Refusal::BadFile as u64),
         ("BAD_STAY", Refusal::BadStay as u64),
         ("BEFORE_START", Refusal::BeforeStart as u64),
+        ("NUMBER_TAKEN", Refusal::NumberTaken as u64),
+        ("NO_KEY", Refusal::NoKey as u64),
     ]);
     assert_eq!(defined, expected);
 }
@@ -118,7 +122,7 @@ fn shown_calls_are_those_of_the_examples() {
     let examples = EXAMPLES.map(words);
     let indented = HEADER.lines().filter_map(|line| line.strip_prefix(" *     "));
     let shown: Vec<_> = indented.filter(|line| line.starts_with("tulvekas_") && line.ends_with(')')).collect();
-    assert_eq!(shown.len(), 19);
+    assert_eq!(shown.len(), 22);
     for call in shown {
         assert!(examples.iter().any(|example| example.contains(call)), "{call}");
     }

@@ -1,5 +1,5 @@
 -- `layout::well_laid` meets its contract: each test is a rule, and with 512 bytes all of them together are the answer.
-use mathlib.Core.Path.{_≡_, refl, ap, ap₂, _∙_}
+use mathlib.Core.Path.{_≡_, refl, ap, _∙_}
 use mathlib.Core.Bool.{not, _||_}
 use native.Mathlib.Omega.{arith}
 use borrow.Author.Needs.{needs}
@@ -41,8 +41,7 @@ returns c =
 returns-2 : tie.Need-returns-2
 unfolding rules read
 returns-2 c =
-    let w = c .before in
-    let z4 = w .before in
+    let z4 = c .before in
     let z3 = z4 .before in
     let z2 = z3 .before in
     let z1 = z2 .before in
@@ -61,7 +60,7 @@ returns-2 c =
     (z2 .all-zero2 .ensures)
     (z3 .all-zero3 .ensures)
     (z4 .all-zero4 .ensures)
-    (ap₂ eqb (w .word .ensures) (c .check .ensures))
+    (c .check-holds .ensures)
 
 pub well-laid-spec : {M : Type 1} → statement M
 well-laid-spec =
@@ -74,7 +73,6 @@ well-laid-spec =
     (λ c κs. search needs)
     (λ c. search needs)
     (λ c. search needs)
-    (λ c κs. search needs)
     (λ c κs. search needs)
     (λ c κs. search needs)
     (λ c κs. search needs)

@@ -2,8 +2,9 @@
 use native.Mathlib.Omega.{arith}
 use borrow.Author.Needs.{needs}
 use denote.Ref.{now}
+use Rattle.fields.proofs.Blocks.{lent-back}
 use Rattle.page_file.specs.Layout.{sealed-page}
-use Rattle.page_file.proofs.Sealing.{no-key, no-stay, long-text, late-day, not-whole, past-end, in-place, lent-back}
+use Rattle.page_file.proofs.Sealing.{no-key, no-stay, long-text, late-day, not-whole, past-end, in-place}
 use Rattle.page_file.proofs.seal.Statement.{statement}
 use Rattle.page_file.proofs.seal.Tie as tie
 

@@ -6,9 +6,9 @@ use native.Mathlib.Omega.{arith}
 use borrow.Author.Needs.{needs}
 use denote.Ref.{now}
 use lib.ListN.{length}
-use Rattle.page_file.specs.File.{cut, pages}
+use Rattle.fields.specs.Blocks.{cut, blocks}
+use Rattle.fields.proofs.Blocks.{cut-long, cut-more}
 use Rattle.page_file.specs.Inner.{Surveyed}
-use Rattle.page_file.proofs.Pages.{cut-long, cut-more}
 use Rattle.page_file.proofs.Surveying.{seen-none, seen-fewer}
 use Rattle.page_file.proofs.survey.Statement.{statement}
 use Rattle.page_file.proofs.survey.Tie as tie
@@ -39,7 +39,7 @@ loop-again c =
     )
 
 returns : tie.Need-returns Inv-loop μ-loop
-unfolding pages
+unfolding blocks
 returns c =
     let l = c .before .loop in
     let a = c .before .before .before .before .args in

@@ -2,15 +2,15 @@
 -- bytes before it.
 use Prim.Native.Nat.{ℕ, _+_}
 use mathlib.Core.Path.{_≡_, refl, ap, ap₂, _∙_}
-use mathlib.Core.List.{List, [], _∷_, _++_, append-assoc, append-nil}
+use mathlib.Core.List.{List, [], _∷_, _++_, append-assoc}
 use borrow.Author.Needs.{needs}
 use lib.Dec.{lit≤}
-use lib.ListN.{length, replicate, length-append}
+use lib.ListN.{length, take, replicate, length-append}
+use lib.Seq.{take-at}
 use Rattle.words.specs.Bytes.{little}
 use Rattle.words.proofs.Bytes.{little-long}
 use Rattle.words.proofs.Fronts.{Front, front-none, front-put, front-skip}
-use Rattle.fields.specs.Fields.{check}
-use Rattle.fields.proofs.Reading.{check-front}
+use Rattle.fields.specs.Fields.{checked}
 use Rattle.ghash.proofs.Elements.{element-block}
 use Rattle.cipher.specs.Machine.{registersOf}
 use Rattle.digest.specs.Machine.{sumOf}
@@ -31,8 +31,7 @@ in-parts w a b g = rw append-assoc g
 returns : tie.Need-returns
 unfolding body block-of
 returns c =
-    let p3 = c .before in
-    let k = p3 .before .before in
+    let k = c .before in
     let ph = k .before .before .before in
     let ps = ph .before .before .before in
     let p2 = ps .before .before .before in
@@ -49,10 +48,7 @@ returns c =
     let f128 = front-put f16 (registers-bytes (registersOf (f .registers))) 112 _ (registers-long (f .registers) (long s .0) (long s .1)) (lit≤ tt) (ps .put-registers .ensures) in
     let f160 = in-parts f128 (held .hash) (held .pending) (front-put f128 (held .hash ++ held .pending) 32 _ held-long (lit≤ tt) (ph .put-held .ensures)) in
     let f508 : Front 512 (body (suspendedOf f)) 508 (ph .put-held .last .0) = front-skip f160 348 (lit≤ tt) in
-    let e : k .check .result ≡ check (body (suspendedOf f)) =
-    k .check .ensures ∙ ap check (f508 .is) ∙ check-front (body (suspendedOf f)) (replicate 4 0) (f508 .long) in
-    let f512 = front-put f508 (little 4 (k .check .result)) 4 _ (little-long 4 (k .check .result)) (lit≤ tt) (p3 .put3 .ensures) in
-    f512 .is ∙ append-nil _ ∙ ap (λ (n : ℕ). body (suspendedOf f) ++ little 4 n) e
+    k .put-check .ensures ∙ ap checked (ap (take 508) (f508 .is) ∙ take-at (body (suspendedOf f)) (replicate 4 0) 508 (f508 .long))
 
 pub block-of-spec : {M : Type 1} → statement M
 block-of-spec =
@@ -67,9 +63,6 @@ block-of-spec =
     (λ c κs. search needs)
     (λ c. search needs)
     (λ c κs. search needs)
-    (λ c. search needs)
-    (λ c κs. search needs)
-    (λ c. search needs)
     (λ c. search needs)
     (λ c κs. search needs)
     returns)

@@ -105,4 +105,25 @@ extern "C" {
         length: *mut u8,
         length_len: usize,
     ) -> u64;
+    pub fn tulvekas_keys_store(
+        key: *const u8,
+        key_len: usize,
+        iv: *const u8,
+        iv_len: usize,
+        stay_key: *const u8,
+        stay_key_len: usize,
+        store: *mut u8,
+        store_len: usize,
+    ) -> u64;
+    pub fn tulvekas_keys_fetch(
+        key: *const u8,
+        key_len: usize,
+        iv: *const u8,
+        iv_len: usize,
+        store: *const u8,
+        store_len: usize,
+        out: *mut u8,
+        out_len: usize,
+    ) -> u64;
+    pub fn tulvekas_keys_erase(iv: *const u8, iv_len: usize, store: *mut u8, store_len: usize) -> u64;
 }

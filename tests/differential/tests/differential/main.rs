@@ -8,6 +8,7 @@ mod calendar;
 mod cipher;
 mod cuts;
 mod keeping;
+mod key_store;
 mod lent;
 mod library;
 mod orders;

@@ -4,8 +4,8 @@ use crate::arbitrary::COUNT_AT;
 use crate::tester::{FileOpen, FileSeal, Session, Tester, SESSION_BYTES, STATE_BYTES};
 use reference::calendar::Date;
 use reference::cipher::{Key, Mode, Registers};
-use reference::page;
 use reference::suspended::check;
+use reference::{key_store, page};
 
 /// The number of the first condition that holds, else 0.
 fn first(conditions: &[(bool, u64)]) -> u64 {
@@ -683,6 +683,139 @@ fn order_of_file_open() {
                             }
                         }
                     }
+                }
+            }
+        }
+    }
+    t.done();
+}
+
+const STAY_KEY_LENGTHS: [usize; 4] = [32, 0, 31, 33];
+
+/// A store of three blocks of one season, and what it is to a number: 0 new to it, 1 held, 2 erased. `full` ones have no empty block.
+fn store_for(key: &[u8], iv: &[u8], of_number: u64, full: bool) -> Vec<u8> {
+    let mut store = vec![0; 3 * 512];
+    if of_number > 0 {
+        key_store::store(key, iv, &[7; 32], &mut store).unwrap();
+    }
+    if of_number == 2 {
+        key_store::erase(iv, &mut store).unwrap();
+    }
+    let room = if of_number > 0 { 2 } else { 3 };
+    for other in 0..if full { room } else { 1 } {
+        key_store::store(key, &[other; 16], &[other; 32], &mut store).unwrap();
+    }
+    store
+}
+
+/// What may be wrong with a store: 1 its length, 2 a check, 3 a mark, 4 a byte that is not zero, 5 a number that stands twice.
+fn broken(store: &[u8], fault: u64) -> Vec<u8> {
+    let mut store = store.to_vec();
+    match fault {
+        1 => drop(store.pop()),
+        2 => store[2 * 512 + 510] ^= 0x10,
+        3 => store[512] = 3,
+        4 => store[2 * 512 + 81] = 1,
+        5 => store.copy_within(..512, 2 * 512),
+        _ => {}
+    }
+    if fault == 3 || fault == 4 {
+        for block in store.chunks_mut(512) {
+            let sum = check((&*block).try_into().unwrap());
+            block[508..].copy_from_slice(&sum.to_le_bytes());
+        }
+    }
+    store
+}
+
+#[test]
+fn order_of_keys_store() {
+    let mut t = Tester::new("order of keys_store");
+    let (key, iv, stay_key) = (t.random.array::<32>(), t.random.array::<16>(), t.random.array::<32>());
+    let cut = |bytes: &[u8], len: usize| [bytes, &[0]].concat()[..len].to_vec();
+    for of_number in 0..3 {
+        for full in [false, true] {
+            let store = store_for(&key, &iv, of_number, full);
+            for fault in 0..6 {
+                let lent = broken(&store, fault);
+                for key_len in KEY_LENGTHS {
+                    for iv_len in IV_LENGTHS {
+                        for stay_key_len in STAY_KEY_LENGTHS {
+                            if !t.chosen() {
+                                continue;
+                            }
+                            let answer = t.keys_store(&cut(&key, key_len), &cut(&iv, iv_len), &cut(&stay_key, stay_key_len), &lent).0;
+                            let expected = first(&[
+                                (key_len != 32 || stay_key_len != 32, 1),
+                                (iv_len != 16, 2),
+                                (fault != 0, 8),
+                                (of_number != 0, 16),
+                                (full, 4),
+                            ]);
+                            t.expect("keys_store", answer, expected);
+                        }
+                    }
+                }
+            }
+        }
+    }
+    t.done();
+}
+
+#[test]
+fn order_of_keys_fetch() {
+    let mut t = Tester::new("order of keys_fetch");
+    let (key, iv) = (t.random.array::<32>(), t.random.array::<16>());
+    let cut = |bytes: &[u8], len: usize| [bytes, &[0]].concat()[..len].to_vec();
+    for of_number in 0..3 {
+        for full in [false, true] {
+            for tag in [false, true] {
+                let mut store = store_for(&key, &iv, of_number, full);
+                if tag && of_number == 1 {
+                    store[79] ^= 1;
+                    let sum = check(store[..512].try_into().unwrap());
+                    store[508..512].copy_from_slice(&sum.to_le_bytes());
+                }
+                for fault in 0..6 {
+                    let lent = broken(&store, fault);
+                    for key_len in KEY_LENGTHS {
+                        for iv_len in IV_LENGTHS {
+                            for out_len in [32, 0, 16, 31, 33, 40] {
+                                if !t.chosen() {
+                                    continue;
+                                }
+                                let answer = t.keys_fetch_in(&cut(&key, key_len), &cut(&iv, iv_len), &lent, out_len).0;
+                                let expected = first(&[
+                                    (key_len != 32, 1),
+                                    (iv_len != 16, 2),
+                                    (fault != 0, 8),
+                                    (of_number != 1, 17),
+                                    (tag, 5),
+                                    (out_len < 32, 4),
+                                ]);
+                                t.expect("keys_fetch", answer, expected);
+                            }
+                        }
+                    }
+                }
+            }
+        }
+    }
+    t.done();
+}
+
+#[test]
+fn order_of_keys_erase() {
+    let mut t = Tester::new("order of keys_erase");
+    let (key, iv) = (t.random.array::<32>(), t.random.array::<16>());
+    for of_number in 0..3 {
+        for full in [false, true] {
+            let store = store_for(&key, &iv, of_number, full);
+            for fault in 0..6 {
+                let lent = broken(&store, fault);
+                for iv_len in IV_LENGTHS {
+                    let answer = t.keys_erase(&[&iv[..], &[0]].concat()[..iv_len], &lent).0;
+                    t.expect("keys_erase", answer, first(&[(iv_len != 16, 2), (fault != 0, 8), (of_number != 1, 17)]));
                 }
             }
         }

@@ -5,6 +5,7 @@
 use crate::library::*;
 use crate::random::Random;
 use crate::tester::{SESSION_BYTES, STATE_BYTES};
+use reference::key_store;
 use std::ffi::c_void;
 use std::ptr::null_mut;
 
@@ -123,6 +124,27 @@ fn of_a_file(random: &mut Random, pages: usize, text_len: usize) -> Vec<(&'stati
     taken
 }
 
+/// The stack of storing, fetching and erasing the key of a stay in the last block of a store of so many, of which the others are held or empty.
+fn of_a_store(random: &mut Random, blocks: usize, held: bool) -> Vec<(&'static str, usize)> {
+    let (key, iv, stay_key) = (random.array::<32>(), random.array::<16>(), random.array::<32>());
+    let (mut store, mut fetched) = (vec![0; 512 * blocks], [0; 32]);
+    if held {
+        for other in 1..blocks {
+            let mut block = [0; 512];
+            key_store::store(&key, &(other as u128).to_le_bytes(), &stay_key, &mut block).unwrap();
+            store[512 * (other - 1)..][..512].copy_from_slice(&block);
+        }
+    }
+    let (k, v, y, s, f) = (key.as_ptr(), iv.as_ptr(), stay_key.as_ptr(), store.as_mut_ptr(), fetched.as_mut_ptr());
+    let mut taken = Vec::new();
+    unsafe {
+        take(&mut taken, "keys_store", &|| tulvekas_keys_store(k, 32, v, 16, y, 32, s, 512 * blocks));
+        take(&mut taken, "keys_fetch", &|| tulvekas_keys_fetch(k, 32, v, 16, s, 512 * blocks, f, 32));
+        take(&mut taken, "keys_erase", &|| tulvekas_keys_erase(v, 16, s, 512 * blocks));
+    }
+    taken
+}
+
 #[test]
 fn stack_of_each_call() {
     let mut random = Random::new(20_000_101);
@@ -133,6 +155,9 @@ fn stack_of_each_call() {
     }
     for (pages, text_len) in [(1, 0), (1, 16), (2, 473), (6, 474), (100, 17), (10_000, 474)] {
         taken.extend(of_a_file(&mut random, pages, text_len));
+    }
+    for (blocks, held) in [(1, false), (2, true), (6, false), (6, true), (100, true), (1_000, true)] {
+        taken.extend(of_a_store(&mut random, blocks, held));
     }
     for (call, bytes) in taken {
         assert!(bytes <= MOST, "{call} takes {bytes} bytes of stack");

@@ -597,4 +597,49 @@ impl Tester {
         );
         (found, our_out, our_length)
     }
+
+    /// Gives the store that is left beside the answer.
+    pub fn keys_store(&mut self, key: &[u8], iv: &[u8], stay_key: &[u8], store: &[u8]) -> (u64, Vec<u8>) {
+        let (key, iv, stay_key) = (self.lend("key", key), self.lend("iv", iv), self.lend("stay_key", stay_key));
+        let mut store = self.lend("store", store);
+        let mut our_store = store.lent().to_vec();
+        let expected = number(&calls::keys_store(key.lent(), iv.lent(), stay_key.lent(), &mut our_store));
+        let found = unsafe {
+            tulvekas_keys_store(key.read(), key.len(), iv.read(), iv.len(), stay_key.read(), stay_key.len(), store.written(), store.len())
+        };
+        let lent = [(&key, Left::Unchanged), (&iv, Left::Unchanged), (&stay_key, Left::Unchanged), (&store, Left::Bytes(&our_store))];
+        self.compare("keys_store", found, expected, &lent);
+        (found, our_store)
+    }
+
+    /// Gives what is left of the output beside the answer.
+    pub fn keys_fetch_in(&mut self, key: &[u8], iv: &[u8], store: &[u8], out_len: usize) -> (u64, Vec<u8>) {
+        let (key, iv, store) = (self.lend("key", key), self.lend("iv", iv), self.lend("store", store));
+        let mut out = self.lend_output("out", out_len);
+        let mut our_out = out.lent().to_vec();
+        let expected = number(&calls::keys_fetch(key.lent(), iv.lent(), store.lent(), &mut our_out));
+        let found =
+            unsafe { tulvekas_keys_fetch(key.read(), key.len(), iv.read(), iv.len(), store.read(), store.len(), out.written(), out.len()) };
+        let lent = [(&key, Left::Unchanged), (&iv, Left::Unchanged), (&store, Left::Unchanged), (&out, Left::Bytes(&our_out))];
+        self.compare("keys_fetch", found, expected, &lent);
+        (found, our_out)
+    }
+
+    /// Gives the written key, or what its buffer held, beside the answer.
+    pub fn keys_fetch(&mut self, key: &[u8], iv: &[u8], store: &[u8]) -> (u64, Vec<u8>) {
+        let spare = if self.random.one_in(2) { 0 } else { self.random.below(40) };
+        let (answer, mut out) = self.keys_fetch_in(key, iv, store, 32 + spare);
+        out.truncate(32);
+        (answer, out)
+    }
+
+    /// Gives the store that is left beside the answer.
+    pub fn keys_erase(&mut self, iv: &[u8], store: &[u8]) -> (u64, Vec<u8>) {
+        let (iv, mut store) = (self.lend("iv", iv), self.lend("store", store));
+        let mut our_store = store.lent().to_vec();
+        let expected = number(&calls::keys_erase(iv.lent(), &mut our_store));
+        let found = unsafe { tulvekas_keys_erase(iv.read(), iv.len(), store.written(), store.len()) };
+        self.compare("keys_erase", found, expected, &[(&iv, Left::Unchanged), (&store, Left::Bytes(&our_store))]);
+        (found, our_store)
+    }
 }

@@ -1,5 +1,6 @@
 //! Lengths over 2^32, which a number of 32 bits would confuse with short ones. The buffers are zeros that the system lends on demand;
-//! no call has a reason to write more of them than their front, or a page of a file, and only opening a page of a file reads on.
+//! no call has a reason to write more of them than their front, or a page of a file, and only opening a page of a file and the calls on a key store
+//! read on. The blocks of such a store are empty, so that no number is compared with another.
 
 #![cfg(target_pointer_width = "64")]
 
@@ -116,6 +117,7 @@ fn lengths_over_32_bits() {
     accepted(&mut t, &mut written, [&key, &iv, &ad, &text, &cipher, &tag]);
     refused_pieces(&mut t, zeros, w, &key, &iv);
     page_files(&mut t, zeros, &mut written, &key);
+    key_stores(&mut t, zeros, &mut written, &key, &iv);
     t.done();
 }
 
@@ -244,5 +246,37 @@ fn page_files(t: &mut Tester, zeros: *const u8, written: &mut Zeros, key: &[u8])
         if written.take_front(t, "file_open", 8) != length {
             t.fail("file_open", "another length than expected".into());
         }
+    }
+}
+
+/// Keys, numbers, stores and outputs of more than 2^32 bytes.
+fn key_stores(t: &mut Tester, zeros: *const u8, written: &mut Zeros, key: &[u8], iv: &[u8]) {
+    let (stay_key, w) = (t.random.array::<32>(), written.0);
+    let (k, v, y) = (key.as_ptr(), iv.as_ptr(), stay_key.as_ptr());
+    let mut store = [0; 512];
+    calls::keys_store(key, iv, &stay_key, &mut store).unwrap();
+    let s = store.as_ptr();
+    unsafe {
+        answered(t, "keys_store", tulvekas_keys_store(zeros, WIDE + 32, v, 16, y, 32, w, 512), 1);
+        answered(t, "keys_store", tulvekas_keys_store(k, 32, v, 16, zeros, WIDE + 32, w, 512), 1);
+        answered(t, "keys_store", tulvekas_keys_store(k, 32, zeros, WIDE + 16, y, 32, w, 512), 2);
+        answered(t, "keys_store", tulvekas_keys_store(k, 32, v, 16, y, 32, w, WIDE + 1), 8);
+        answered(t, "keys_store", tulvekas_keys_store(k, 32, v, 16, y, 32, w, WIDE + 511), 8);
+        answered(t, "keys_fetch", tulvekas_keys_fetch(zeros, WIDE + 32, v, 16, s, 512, w, 32), 1);
+        answered(t, "keys_fetch", tulvekas_keys_fetch(k, 32, zeros, WIDE + 16, s, 512, w, 32), 2);
+        answered(t, "keys_fetch", tulvekas_keys_fetch(k, 32, v, 16, zeros, WIDE + 511, w, 32), 8);
+        answered(t, "keys_erase", tulvekas_keys_erase(zeros, WIDE + 16, w, 512), 2);
+        answered(t, "keys_erase", tulvekas_keys_erase(v, 16, w, WIDE + 511), 8);
+        answered(t, "keys_fetch", tulvekas_keys_fetch(k, 32, v, 16, zeros, WIDE + 512, w, 32), 17);
+        answered(t, "keys_erase", tulvekas_keys_erase(v, 16, w, WIDE + 512), 17);
+        written.take_front(t, "a refused call", 0);
+        answered(t, "keys_fetch", tulvekas_keys_fetch(k, 32, v, 16, s, 512, w, WIDE + 3), 0);
+    }
+    if written.take_front(t, "keys_fetch", 32) != stay_key {
+        t.fail("keys_fetch", "another key than expected".into());
+    }
+    answered(t, "keys_store", unsafe { tulvekas_keys_store(k, 32, v, 16, y, 32, w, WIDE + 512) }, 0);
+    if written.take_front(t, "keys_store", 512) != store {
+        t.fail("keys_store", "another block than expected".into());
     }
 }

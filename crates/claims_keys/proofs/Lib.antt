@@ -1,0 +1,15 @@
+pub mod First
+pub mod Blocks
+pub mod Once
+pub mod Putting
+pub mod Accepting
+pub mod Staying
+pub mod Empty
+pub mod Others
+pub mod Fetching
+pub mod Gone
+pub mod Erasing
+pub mod Storing
+pub mod Twins
+pub mod Twice
+pub mod Claimed

@@ -1,0 +1,5 @@
+pub mod Layout
+pub mod Store
+pub mod Calls
+pub mod Laws
+pub mod Inner
