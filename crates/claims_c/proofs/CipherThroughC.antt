@@ -27,13 +27,15 @@ use Rattle.page.specs.Calls.{seal-number, seal-out, seal-tag}
 use Rattle.claims.specs.Lists.{Bytes}
 use Rattle.claims.proofs.Within.{row-of}
 use Rattle.claims.proofs.Demands.{start-keyed}
-use Rattle.tulvekas.specs.Order.{next, room}
-use Rattle.tulvekas.specs.StateBytes.{state-bytes, state-in}
+use Rattle.bytes_c.specs.Order.{next, room}
+use Rattle.bytes_c.specs.StateBytes.{state-bytes, state-in}
+use Rattle.bytes_c.specs.Modes.{mode-named, mode-byte}
+use Rattle.bytes_c.proofs.Sizes.{SizedState}
+use Rattle.bytes_c.proofs.StateLaws.{state-row, state-whole, listed-sized}
+use Rattle.bytes_c.proofs.Answering.{fits, accepted}
 use Rattle.tulvekas.specs.Pages.{seal-answer, seal-writes, seal-writes-tag}
-use Rattle.tulvekas.specs.Cipher.{mode-named, fitting, keystream-answer, keystream-writes, mode-byte, trace-of-bytes, trace-answer, trace-iv, trace-sealed}
-use Rattle.tulvekas.proofs.Sizes.{SizedState}
-use Rattle.tulvekas.proofs.StateLaws.{state-row, state-whole, listed-sized}
-use Rattle.tulvekas.proofs.Answering.{fits, accepted, below-refuses, below-accepts, nothing-later, granted-again}
+use Rattle.tulvekas.specs.Cipher.{fitting, keystream-answer, keystream-writes, trace-of-bytes, trace-answer, trace-iv, trace-sealed}
+use Rattle.tulvekas.proofs.Answering.{below-refuses, below-accepts, nothing-later, granted-again}
 use Rattle.tulvekas.proofs.CipherAnswers.{trace-bad-key, trace-walks}
 use Rattle.claims_c.specs.ThroughC.{Told, TracesThroughC}
 

@@ -16,9 +16,10 @@ use Rattle.calendar.specs.Calls.{Dated, Dated.dated, to-date, to-day}
 use Rattle.calendar.proofs.Claimed as days
 use Rattle.retention.specs.Keeping.{last-date, kept-until, keeping}
 use Rattle.retention.proofs.Claimed as keeps
-use Rattle.tulvekas.specs.Dates.{Reply, Reply.bytes, reply-answer, reply-writes, date-bytes, date-in, date-reply, day-reply, kept-reply}
-use Rattle.tulvekas.proofs.Answering.{never, unwritten, accepted, short, fits}
-use Rattle.tulvekas.proofs.Replies.{reply-refused, reply-bytes, date-long}
+use Rattle.bytes_c.specs.Replies.{Reply, Reply.bytes, reply-answer, reply-writes, date-bytes, date-in, date-reply}
+use Rattle.bytes_c.proofs.Replies.{reply-refused, reply-bytes, date-long}
+use Rattle.bytes_c.proofs.Answering.{never, unwritten, accepted, short, fits}
+use Rattle.tulvekas.specs.Dates.{day-reply, kept-reply}
 use Rattle.claims_c.specs.ThroughC.{DateThroughC, DayThroughC, RefusedThroughC}
 
 -- k bytes with room for them are answered 0, and stand at the front

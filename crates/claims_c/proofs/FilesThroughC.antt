@@ -9,9 +9,10 @@ use Rattle.scope.specs.Refusals.{granted}
 use Rattle.words.specs.Bytes.{little}
 use Rattle.page_file.specs.Layout.{text-length}
 use Rattle.page_file.specs.Calls.{page-of, open-number, open-text, open-out, open-answer, Opened.written, Opened.refused}
-use Rattle.tulvekas.specs.Order.{next, room}
+use Rattle.bytes_c.specs.Order.{next, room}
+use Rattle.bytes_c.proofs.Answering.{never, fits}
 use Rattle.tulvekas.specs.Files.{file-open-answer, file-open-writes, file-open-length}
-use Rattle.tulvekas.proofs.Answering.{never, fits, nothing-later, granted-again}
+use Rattle.tulvekas.proofs.Answering.{nothing-later, granted-again}
 use Rattle.claims_c.specs.ThroughC.{ToldOpened}
 
 told-opened : (m k : ℕ) (len : List ℕ) → ToldOpened (granted m (written k) (refused m)) len m (granted m (little 8 k ++ drop 8 len) len)

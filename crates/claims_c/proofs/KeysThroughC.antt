@@ -8,9 +8,10 @@ use Rattle.scope.specs.Refusals.{granted, no-key}
 use Rattle.key_store.specs.Calls.{store-number, store-after, fetch-number, fetch-key, erase-number, erase-after}
 use Rattle.claims_keys.specs.Lists.{Call, after, never-erases}
 use Rattle.claims_keys.proofs.Claimed.{key-claims}
-use Rattle.tulvekas.specs.Order.{next, room}
+use Rattle.bytes_c.specs.Order.{next, room}
+use Rattle.bytes_c.proofs.Answering.{never, fits, unwritten}
 use Rattle.tulvekas.specs.Keys.{keys-fetch-answer, keys-fetch-writes}
-use Rattle.tulvekas.proofs.Answering.{never, fits, nothing-later, below-refuses, unwritten}
+use Rattle.tulvekas.proofs.Answering.{nothing-later, below-refuses}
 
 module _ (key iv s out : List ℕ) where
   pub fetches-key : 32 ≤ length out

@@ -23,12 +23,13 @@ use Rattle.suspend.proofs.RoundTrip.{Led}
 use Rattle.page.proofs.Ciphertext.{stream-block}
 use Rattle.claims.specs.Lists.{Bytes, Call.give-data, Call.give-text, Call.suspend-and-resume}
 use Rattle.claims.proofs.Knowing.{Placed}
-use Rattle.tulvekas.specs.Order.{next, room, buffer-after}
-use Rattle.tulvekas.specs.SessionBytes.{session-bytes, session-in}
-use Rattle.tulvekas.proofs.Sizes.{Sized}
-use Rattle.tulvekas.specs.Sessions.{whole, data-answer, text-answer, finish-answer, suspend-answer, resume-answer, resume-writes}
-use Rattle.tulvekas.proofs.Answering.{nothing-later, fits, sound}
-use Rattle.tulvekas.proofs.SessionLaws.{session-row, session-whole}
+use Rattle.bytes_c.specs.Order.{next, room, buffer-after}
+use Rattle.bytes_c.specs.SessionBytes.{session-bytes, session-in, whole}
+use Rattle.bytes_c.proofs.Sizes.{Sized}
+use Rattle.bytes_c.proofs.SessionLaws.{session-row, session-whole}
+use Rattle.bytes_c.proofs.Answering.{fits}
+use Rattle.tulvekas.specs.Sessions.{data-answer, text-answer, finish-answer, suspend-answer, resume-answer, resume-writes}
+use Rattle.tulvekas.proofs.Answering.{nothing-later, sound}
 use Rattle.tulvekas.proofs.SessionAnswers.{text-again, suspend-again, resume-right}
 use Rattle.claims_c.specs.Lists.{left, Buffers, c-call}
 use Rattle.claims_c.specs.ThroughC.{Stands}

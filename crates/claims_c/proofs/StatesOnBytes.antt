@@ -26,10 +26,11 @@ use Rattle.start.proofs.Undo.{start-good}
 use Rattle.claims.specs.Lists.{Bytes, Run, Course, runs, course}
 use Rattle.claims.specs.Claims.{Keyed}
 use Rattle.claims.proofs.Within.{row-of}
-use Rattle.tulvekas.specs.StateBytes.{state-bytes, state-in}
-use Rattle.tulvekas.specs.Cipher.{mode-named, back-named, start-answer, run-answer, run-writes}
-use Rattle.tulvekas.proofs.Sizes.{SizedState}
-use Rattle.tulvekas.proofs.StateLaws.{state-row, state-whole, listed-back, listed-sized}
+use Rattle.bytes_c.specs.StateBytes.{state-bytes, state-in}
+use Rattle.bytes_c.specs.Modes.{mode-named}
+use Rattle.bytes_c.proofs.Sizes.{SizedState}
+use Rattle.bytes_c.proofs.StateLaws.{state-row, state-whole, listed-back, listed-sized}
+use Rattle.tulvekas.specs.Cipher.{back-named, start-answer, run-answer, run-writes}
 use Rattle.tulvekas.proofs.CipherAnswers.{start-right, run-below, run-written, run-unwritten}
 use Rattle.claims_c.specs.Lists.{left-state, c-run, c-runs, c-course}
 use Rattle.claims_c.specs.ThroughC.{StandsState}

@@ -28,10 +28,10 @@ use Rattle.claims.proofs.Within.{row-of}
 use Rattle.claims.proofs.Suspending.{left-same, stage-led}
 use Rattle.claims.proofs.Reached.{after-reached}
 use Rattle.claims.proofs.Knowing.{Placed, called, ended, gone-on, placed-known, from, knows-its-stay}
-use Rattle.tulvekas.specs.Order.{room}
-use Rattle.tulvekas.specs.SessionBytes.{session-bytes, session-in}
-use Rattle.tulvekas.specs.Cipher.{mode-named}
-use Rattle.tulvekas.proofs.Sizes.{Sized}
+use Rattle.bytes_c.specs.Order.{room}
+use Rattle.bytes_c.specs.SessionBytes.{session-bytes, session-in}
+use Rattle.bytes_c.specs.Modes.{mode-named}
+use Rattle.bytes_c.proofs.Sizes.{Sized}
 use Rattle.tulvekas.specs.Sessions.{begin-answer, finish-writes-iv, suspend-writes}
 use Rattle.tulvekas.proofs.SessionAnswers.{begin-right, resume-right}
 use Rattle.tulvekas.proofs.CipherAnswers.{state-of-right}

@@ -11,10 +11,11 @@ use Rattle.session.specs.Session.{Session}
 use Rattle.session.specs.Calls.{begin-call, data-call, text-call, finish-call}
 use Rattle.suspend.specs.Walk.{resume-call}
 use Rattle.claims.specs.Lists.{Bytes, Call, Call.give-data, Call.give-text, Call.suspend-alone, Call.suspend-and-resume, Run, Source, Source.by-begin, Source.by-resume, source-key, SessionCall}
-use Rattle.tulvekas.specs.Order.{room, buffer-after}
-use Rattle.tulvekas.specs.StateBytes.{state-bytes, state-in}
-use Rattle.tulvekas.specs.SessionBytes.{session-bytes, session-in}
-use Rattle.tulvekas.specs.Cipher.{mode-named, back-named, start-answer, run-answer}
+use Rattle.bytes_c.specs.Order.{room, buffer-after}
+use Rattle.bytes_c.specs.StateBytes.{state-bytes, state-in}
+use Rattle.bytes_c.specs.SessionBytes.{session-bytes, session-in}
+use Rattle.bytes_c.specs.Modes.{mode-named}
+use Rattle.tulvekas.specs.Cipher.{back-named, start-answer, run-answer}
 use Rattle.tulvekas.specs.Sessions.{begin-answer, data-answer, text-answer, finish-answer, suspend-answer, suspend-writes, resume-answer}
 
 -- what a call that answers n and gives the session g leaves in a lent session, as `Leaves` says

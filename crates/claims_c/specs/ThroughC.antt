@@ -28,15 +28,17 @@ use Rattle.claims_keys.specs.Lists.{never-erases}
 use Rattle.calendar.specs.Calendar.{Date, on-or-before, date-of}
 use Rattle.calendar.specs.Calls.{Dated, Dated.dated, to-date, to-day}
 use Rattle.retention.specs.Keeping.{last-date, kept-until, keeping}
-use Rattle.tulvekas.specs.Order.{next}
+use Rattle.bytes_c.specs.Order.{next}
+use Rattle.bytes_c.specs.StateBytes.{state-bytes, state-in}
+use Rattle.bytes_c.specs.SessionBytes.{session-bytes, session-in}
+use Rattle.bytes_c.specs.Modes.{mode-named, mode-byte}
+use Rattle.bytes_c.specs.Replies.{Reply, Reply.bytes, reply-answer, reply-writes, date-in, date-reply}
 use Rattle.tulvekas.specs.Pages.{seal-answer, seal-writes, seal-writes-tag}
 use Rattle.tulvekas.specs.Files.{file-open-answer, file-open-writes, file-open-length}
 use Rattle.tulvekas.specs.Keys.{keys-fetch-answer, keys-fetch-writes}
-use Rattle.tulvekas.specs.StateBytes.{state-bytes, state-in}
-use Rattle.tulvekas.specs.SessionBytes.{session-bytes, session-in}
 use Rattle.tulvekas.specs.Sessions.{data-answer, text-answer, text-writes, finish-answer, finish-writes-tag, finish-writes-iv, suspend-answer, suspend-writes, resume-answer, resume-writes}
-use Rattle.tulvekas.specs.Cipher.{mode-named, fitting, keystream-answer, keystream-writes, back-named, run-answer, run-writes, state-of-answer, mode-byte, trace-of-bytes, trace-answer, trace-iv, trace-sealed}
-use Rattle.tulvekas.specs.Dates.{Reply, Reply.bytes, reply-answer, reply-writes, date-in, date-reply, day-reply, kept-reply}
+use Rattle.tulvekas.specs.Cipher.{fitting, keystream-answer, keystream-writes, back-named, run-answer, run-writes, state-of-answer, trace-of-bytes, trace-answer, trace-iv, trace-sealed}
+use Rattle.tulvekas.specs.Dates.{day-reply, kept-reply}
 use Rattle.claims_c.specs.Lists.{left, Buffers, CCall, c-after, below, left-state, c-run, c-course, CSessionCall, c-come-to, session-below}
 
 -- bytes b on which every call for C answers and writes what the call below does on the session s

@@ -1,54 +1,42 @@
--- What a refusal leaves and an accepted call gives, whatever the call, and how tests on lengths decide an answer.
+-- What a refusal leaves of a session or a state and an accepted call makes of it, whatever the call, and how the call below and tests on lengths decide an answer.
 use mathlib.Core.Path.{_≡_, refl, sym, ap, _∙_}
 use mathlib.Core.Bool.{Bool, true, false, not}
 use mathlib.Core.List.{List, [], _∷_, _++_}
 use Prim.Native.Nat.{ℕ, zero, suc, _≤_, _<_}
 use native.Mathlib.Omega.{arith}
-use borrow.Author.Tests.{eqb-true, not-false, eq-eqb, ne-eqb, lt-ltb, le-ltb}
+use borrow.Author.Tests.{eqb-true, not-false, eq-eqb}
 use lib.Dec.{eqb}
 use lib.ListN.{length, drop, set}
 use Rattle.scope.specs.Refusals.{pick, granted}
 use Rattle.cipher.specs.State.{State}
 use Rattle.session.specs.Session.{Session}
-use Rattle.tulvekas.specs.Order.{next, room, buffer-after}
-use Rattle.tulvekas.specs.StateBytes.{state-bytes, state-in, LeavesState}
-use Rattle.tulvekas.specs.SessionBytes.{session-bytes, session-in, Leaves}
-use Rattle.tulvekas.specs.Sessions.{is-session, whole}
-
-pub never : (k : ℕ) → ¬ (suc k ≡ 0)
-never k e = omega arith
+use Rattle.bytes_c.specs.Order.{next, room}
+use Rattle.bytes_c.specs.StateBytes.{state-bytes, state-in, LeavesState}
+use Rattle.bytes_c.specs.SessionBytes.{session-bytes, session-in, Leaves, is-session, whole}
+use Rattle.bytes_c.proofs.Answering.{never, refused, unwritten, accepted, short, fits}
 
 -- ---- r is what the code answers, n what the definition says
 
 module _ {r n : ℕ} (e : r ≡ n) where
-  pub refused : {A : Type 0} (a b : A) → ¬ (r ≡ 0) → b ≡ granted n a b
-  refused a b h = rw (ne-eqb n 0 (λ z. h (e ∙ z)))
-
-  pub unwritten : (k : ℕ) (v out : List ℕ) → ¬ (r ≡ 0) → out ≡ buffer-after n k v out
-  unwritten k v out h = refused (v ++ drop k out) out h
-
   pub leaves-all : (g : Session) (s : List ℕ) → ¬ (r ≡ 0) → Leaves n g s s
-  leaves-all g s h = record { bytes = unwritten 240 (session-bytes g) s h; lists = refused g (session-in s) h }
+  leaves-all g s h = record { bytes = unwritten e 240 (session-bytes g) s h; lists = refused e g (session-in s) h }
 
   pub state-leaves-all : (g : State) (s : List ℕ) → ¬ (r ≡ 0) → LeavesState n g s s
-  state-leaves-all g s h = record { bytes = unwritten 120 (state-bytes g) s h; lists = refused g (state-in s) h }
+  state-leaves-all g s h = record { bytes = unwritten e 120 (state-bytes g) s h; lists = refused e g (state-in s) h }
 
 module _ {n : ℕ} (e : 0 ≡ n) where
-  pub accepted : {A : Type 0} (a b : A) → a ≡ granted n a b
-  accepted a b = rw (← e)
-
   pub leaves-stored : (g g′ : Session) (s after : List ℕ) → g ≡ g′ → Leaves 0 g s after → Leaves n g′ s after
   leaves-stored g g′ s after f l =
       record {
-        bytes = l .bytes ∙ ap (λ (u : Session). session-bytes u ++ drop 240 s) f ∙ accepted (session-bytes g′ ++ drop 240 s) s;
-        lists = l .lists ∙ f ∙ accepted g′ (session-in s);
+        bytes = l .bytes ∙ ap (λ (u : Session). session-bytes u ++ drop 240 s) f ∙ accepted e (session-bytes g′ ++ drop 240 s) s;
+        lists = l .lists ∙ f ∙ accepted e g′ (session-in s);
       }
 
   pub state-leaves-stored : (g g′ : State) (s after : List ℕ) → g ≡ g′ → LeavesState 0 g s after → LeavesState n g′ s after
   state-leaves-stored g g′ s after f l =
       record {
-        bytes = l .bytes ∙ ap (λ (u : State). state-bytes u ++ drop 120 s) f ∙ accepted (state-bytes g′ ++ drop 120 s) s;
-        lists = l .lists ∙ f ∙ accepted g′ (state-in s);
+        bytes = l .bytes ∙ ap (λ (u : State). state-bytes u ++ drop 120 s) f ∙ accepted e (state-bytes g′ ++ drop 120 s) s;
+        lists = l .lists ∙ f ∙ accepted e g′ (state-in s);
       }
 
 -- what a refused call left is left by one that says so again
@@ -65,7 +53,7 @@ pub set-first : (out : List ℕ) (b : ℕ) → 1 ≤ length out → set out 0 b 
 set-first [] b h = absurd (omega arith)
 set-first (x ∷ out) b h = refl
 
--- ---- the tests
+-- ---- the tests, behind the call below and on the length of a session
 
 pub below-refuses : (n later : ℕ) → ¬ (n ≡ 0) → n ≡ next n later
 below-refuses n later h = refused {r = n} {n = n} refl later n h
@@ -80,13 +68,6 @@ nothing-later (suc n) = below-refuses (suc n) 0 (never n)
 pub four-later : (n : ℕ) → ¬ (next n 4 ≡ 0)
 four-later zero = never 3
 four-later (suc n) = λ z. never n (below-refuses (suc n) 4 (never n) ∙ z)
-
-module _ (k : ℕ) (out : List ℕ) (later : ℕ) where
-  pub short : length out < k → 4 ≡ room k out later
-  short h = rw (lt-ltb (length out) k h)
-
-  pub fits : k ≤ length out → later ≡ room k out later
-  fits h = rw (le-ltb (length out) k h)
 
 -- m is the number of the call below, behind which a buffer is tested; n is what the code was answered
 module _ (k : ℕ) (out : List ℕ) {n m : ℕ} (e : n ≡ m) where

@@ -6,7 +6,8 @@ use Prim.Native.Nat.{ℕ, _*_, _≤_, _<_}
 use native.Mathlib.Omega.{arith}
 use borrow.Author.Tests.{eq-eqb, ne-eqb, lt-ltb, le-ltb}
 use lib.ListN.{length, drop}
-use lib.Seq.{sets}
+use lib.Seq.{sets, take-all}
+use Rattle.words.specs.Bytes.{part}
 use Rattle.words.proofs.Writing.{put-front}
 use Rattle.scope.specs.Limits.{most-blocks}
 use Rattle.cipher.specs.Registers.{Registers, IsRegisters}
@@ -17,10 +18,12 @@ use Rattle.start.specs.Start.{Mode, start-number}
 use Rattle.start.specs.Leads.{Traced, Traced.origin, Traced.refused}
 use Rattle.start.specs.Trace.{trace}
 use Rattle.layout.specs.Rules.{well-laid}
-use Rattle.tulvekas.specs.Order.{room}
-use Rattle.tulvekas.specs.StateBytes.{state-in}
-use Rattle.tulvekas.specs.Cipher.{fitting, keystream-answer, start-answer, back-named, run-answer, run-writes, state-of-answer, trace-of-bytes, mode-byte, trace-answer, trace-iv, trace-sealed}
-use Rattle.tulvekas.proofs.Answering.{never, unwritten, accepted, below-refuses, short, fits, then-refused, then-short, then-fits}
+use Rattle.bytes_c.specs.Order.{room}
+use Rattle.bytes_c.specs.StateBytes.{state-in}
+use Rattle.bytes_c.specs.Modes.{mode-byte}
+use Rattle.bytes_c.proofs.Answering.{never, unwritten, accepted, short, fits}
+use Rattle.tulvekas.specs.Cipher.{fitting, keystream-answer, start-answer, back-named, run-answer, run-writes, state-of-answer, trace-of-bytes, trace-answer, trace-iv, trace-sealed}
+use Rattle.tulvekas.proofs.Answering.{below-refuses, then-refused, then-short, then-fits}
 
 module _ (key iv out : List ℕ) {n : ℕ} (e : n ≡ start-number key iv) where
   pub keystream-refused : ¬ (n ≡ 0) → n ≡ keystream-answer key iv out
@@ -58,6 +61,10 @@ module _ (key iv s : List ℕ) {n : ℕ} (e : n ≡ start-number key iv) where
     start-right = then-fits 120 s e z
 
 -- ---- run
+
+-- what a state's whole 120 bytes list, read as a part of them
+pub whole-state : (b : List ℕ) → length b ≡ 120 → state-in (part 0 120 b) ≡ state-in b
+whole-state b h = ap state-in (take-all 120 b (omega arith))
 
 module _ (s : List ℕ) (n back : ℕ) (out : List ℕ) where
   pub run-bad-state : ¬ (length s ≡ 120) → 8 ≡ run-answer s n back out

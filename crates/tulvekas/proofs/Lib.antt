@@ -1,6 +1,3 @@
-pub mod Sizes
-pub mod StateLaws
-pub mod SessionLaws
 pub mod Answering
 pub mod PageAnswers
 pub mod FileAnswers

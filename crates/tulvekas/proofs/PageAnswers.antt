@@ -9,9 +9,10 @@ use Rattle.scope.specs.Refusals.{refuse, granted}
 use Rattle.start.specs.Start.{start-number}
 use Rattle.page.specs.Page.{cipher-of}
 use Rattle.page.specs.Calls.{over-limit, seal-number, seal-out}
-use Rattle.tulvekas.specs.Order.{next}
+use Rattle.bytes_c.specs.Order.{next}
+use Rattle.bytes_c.proofs.Answering.{short, fits}
 use Rattle.tulvekas.specs.Pages.{seal-answer}
-use Rattle.tulvekas.proofs.Answering.{granted-again, below-refuses, below-accepts, nothing-later, short, fits}
+use Rattle.tulvekas.proofs.Answering.{granted-again, below-refuses, below-accepts, nothing-later}
 
 in-turn : (a b : Bool) (later : ℕ) → refuse a 1 (refuse b 2 later) ≡ next (refuse a 1 (refuse b 2 0)) later
 in-turn true b later = refl

@@ -12,10 +12,11 @@ use Rattle.session.proofs.Numbers.{finish-late, finish-due}
 use Rattle.layout.specs.Block.{block-of}
 use Rattle.suspend.specs.Calls.{suspended-of, suspend-number, suspend-call}
 use Rattle.suspend.specs.Walk.{resume-call}
-use Rattle.tulvekas.specs.Order.{next, room}
-use Rattle.tulvekas.specs.SessionBytes.{session-in}
-use Rattle.tulvekas.specs.Sessions.{whole, begin-answer, finish-answer, resume-answer}
-use Rattle.tulvekas.proofs.Answering.{granted-again, below-refuses, below-accepts, short, fits, then-refused, then-short, then-fits, sound}
+use Rattle.bytes_c.specs.Order.{next, room}
+use Rattle.bytes_c.specs.SessionBytes.{session-in, whole}
+use Rattle.bytes_c.proofs.Answering.{short, fits}
+use Rattle.tulvekas.specs.Sessions.{begin-answer, finish-answer, resume-answer}
+use Rattle.tulvekas.proofs.Answering.{granted-again, below-refuses, below-accepts, then-refused, then-short, then-fits, sound}
 
 module _ (key iv s : List ℕ) {n : ℕ} (e : n ≡ start-number key iv) where
   pub begin-refused : ¬ (n ≡ 0) → n ≡ begin-answer key iv s

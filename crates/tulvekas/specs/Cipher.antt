@@ -9,20 +9,17 @@ use Rattle.scope.specs.Limits.{most-blocks}
 use Rattle.scope.specs.Refusals.{pick, refuse, key-length, bad-block, count-too-high}
 use Rattle.cipher.specs.Run.{forward, blocks}
 use Rattle.cipher.specs.State.{moved, run-number}
-use Rattle.start.specs.Start.{Mode, Mode.plain, Mode.sealed, start, started, start-number}
+use Rattle.start.specs.Start.{start, started, start-number}
 use Rattle.start.specs.Leads.{Traced, Traced.origin, Traced.refused}
 use Rattle.start.specs.Trace.{trace}
 use Rattle.layout.specs.Block.{read}
 use Rattle.layout.specs.Rules.{well-laid}
 use Rattle.suspend.specs.Calls.{state-of}
-use Rattle.tulvekas.specs.Order.{next, room, buffer-after}
-use Rattle.tulvekas.specs.StateBytes.{state-in, LeavesState}
+use Rattle.bytes_c.specs.Order.{next, room, buffer-after}
+use Rattle.bytes_c.specs.StateBytes.{state-in, LeavesState}
+use Rattle.bytes_c.specs.Modes.{mode-named, mode-byte}
 
 -- ---- keystream: 1, 2, 9
-
--- a mode as C names it: 0 plain, any other number sealed
-abbrev pub mode-named : ℕ → Mode
-mode-named n = pick (eqb n 0) plain sealed
 
 -- whole blocks that fit
 abbrev pub fitting : (out : List ℕ) → ℕ
@@ -79,11 +76,6 @@ trace-of-bytes s key =
     pick (not (eqb (length key) 32))
     (refused key-length)
     (pick (not (is-state s)) (refused bad-block) (trace (state-in s) key))
-
--- a mode as C is told it
-abbrev pub mode-byte : Mode → ℕ
-mode-byte plain = 0
-mode-byte sealed = 1
 
 unfoldable pub trace-answer : Traced → (iv flag : List ℕ) → ℕ
 trace-answer (refused n) iv flag = n

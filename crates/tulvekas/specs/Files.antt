@@ -7,7 +7,7 @@ use Rattle.scope.specs.Refusals.{granted}
 use Rattle.words.specs.Bytes.{little}
 use Rattle.page_file.specs.Layout.{text-length}
 use Rattle.page_file.specs.Calls.{page-of, open-number, open-out}
-use Rattle.tulvekas.specs.Order.{next, room, buffer-after}
+use Rattle.bytes_c.specs.Order.{next, room, buffer-after}
 
 -- 1, 2, 13, 14, 4, 5, 13 for padding, 4 for the length's buffer
 unfoldable pub file-open-answer : (key stay : List ℕ) → (n : ℕ) → (file out len : List ℕ) → ℕ

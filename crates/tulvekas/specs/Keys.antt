@@ -3,7 +3,7 @@
 use Prim.Native.Nat.{ℕ}
 use mathlib.Core.List.{List}
 use Rattle.key_store.specs.Calls.{fetch-number, fetch-key}
-use Rattle.tulvekas.specs.Order.{next, room, buffer-after}
+use Rattle.bytes_c.specs.Order.{next, room, buffer-after}
 
 -- 1, 2, 8, 17, 5, 4
 unfoldable pub keys-fetch-answer : (key iv store out : List ℕ) → ℕ

@@ -1,10 +1,6 @@
-pub mod Order
-pub mod StateBytes
-pub mod SessionBytes
 pub mod Sessions
 pub mod Pages
 pub mod Files
 pub mod Keys
 pub mod Cipher
 pub mod Dates
-pub mod Inner

@@ -4,7 +4,7 @@ use Prim.Native.Nat.{ℕ}
 use mathlib.Core.List.{List}
 use Rattle.scope.specs.Refusals.{granted}
 use Rattle.page.specs.Calls.{seal-number, seal-out, seal-tag}
-use Rattle.tulvekas.specs.Order.{next, room, buffer-after}
+use Rattle.bytes_c.specs.Order.{next, room, buffer-after}
 
 -- 1, 2, 3, 4 for either buffer
 unfoldable pub seal-answer : (key iv ad text out tag : List ℕ) → ℕ

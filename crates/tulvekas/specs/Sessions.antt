@@ -2,23 +2,13 @@
 -- the number that it answers, which is that of the call below, with 8, first of all, for a session of another length, and 4, last, for a buffer
 -- that is too short; what it leaves in a session that it was lent to write; and what stands in its output. A refusal changes no byte.
 use Prim.Native.Nat.{ℕ}
-use mathlib.Core.Bool.{Bool, not}
 use mathlib.Core.List.{List}
-use lib.Dec.{eqb}
-use lib.ListN.{length}
-use Rattle.scope.specs.Refusals.{refuse, granted, bad-block}
+use Rattle.scope.specs.Refusals.{granted}
 use Rattle.session.specs.Calls.{begin-call, data-call, text-call, finish-call}
 use Rattle.suspend.specs.Calls.{suspend-call}
 use Rattle.suspend.specs.Walk.{resume-call}
-use Rattle.tulvekas.specs.Order.{next, room, buffer-after}
-use Rattle.tulvekas.specs.SessionBytes.{session-in, Leaves}
-
--- a session that is read is 240 bytes
-abbrev pub is-session : (session : List ℕ) → Bool
-is-session s = eqb (length s) 240
-
-abbrev pub whole : (session : List ℕ) → ℕ → ℕ
-whole s later = refuse (not (is-session s)) bad-block later
+use Rattle.bytes_c.specs.Order.{next, room, buffer-after}
+use Rattle.bytes_c.specs.SessionBytes.{session-in, Leaves, whole}
 
 -- ---- begin: 1, 2, 4
 

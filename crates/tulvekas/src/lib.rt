@@ -2,46 +2,27 @@
 // refusal, which changes no lent byte; bytes behind what is written stay. Nothing is kept between calls but what the caller was handed: a
 // session is 240 lent bytes, a state 120. Rust's rule for references holds for C as well: a buffer that a call writes overlaps no other buffer of that call.
 ghost use mathlib.Core.Path.{_≡_};
-ghost use mathlib.Core.List.{List, _++_};
-ghost use Prim.Native.Nat.{ℕ, _+_, _≤_};
-ghost use lib.ListN.{length, take, drop};
-ghost use lib.Seq.{sets};
+ghost use mathlib.Core.List.{List};
+ghost use Prim.Native.Nat.{ℕ};
 ghost use Rattle.scope.specs.Refusals.{short-output};
-ghost use Rattle.words.specs.Bytes.{little, part};
-ghost use Rattle.words.specs.Machine.{bytesOf};
-ghost use Rattle.ghash.specs.Machine.{bytesOfElement};
-ghost use Rattle.cipher.specs.Machine.{stateOf};
-ghost use Rattle.start.specs.Machine.{modeOf};
-ghost use Rattle.session.specs.Machine.{sessionOf};
 ghost use Rattle.page.specs.Calls.{seal-number, open-number, open-out};
 ghost use Rattle.page_file.specs.Calls as Files;
 ghost use Rattle.key_store.specs.Calls.{store-number, store-after, erase-number, erase-after};
 ghost use Rattle.calendar.specs.Calendar;
 ghost use Rattle.calendar.specs.Calls.{to-date, to-day};
-ghost use Rattle.calendar.specs.Inner.{Small};
-ghost use Rattle.calendar.specs.Machine.{dateOf, datedOf};
 ghost use Rattle.retention.specs.Keeping.{keeping, kept-until};
-ghost use Rattle.tulvekas.specs.Order.{next, room, buffer-after};
-ghost use Rattle.tulvekas.specs.StateBytes.{state-bytes, state-in, LeavesState};
-ghost use Rattle.tulvekas.specs.SessionBytes.{session-in, Leaves};
+ghost use Rattle.bytes_c.specs.Order.{next};
+ghost use Rattle.bytes_c.specs.Replies.{reply-answer, reply-writes, date-reply};
 ghost use Rattle.tulvekas.specs.Pages.{seal-answer, seal-writes, seal-writes-tag};
 ghost use Rattle.tulvekas.specs.Files.{file-open-answer, file-open-writes, file-open-length};
 ghost use Rattle.tulvekas.specs.Keys.{keys-fetch-answer, keys-fetch-writes};
-ghost use Rattle.tulvekas.specs.Sessions.{is-session, begin-answer, begin-leaves, data-answer, data-leaves, text-answer, text-leaves, text-writes, finish-answer, finish-leaves, finish-writes-tag, finish-writes-iv, suspend-answer, suspend-writes, resume-answer, resume-leaves, resume-writes};
-ghost use Rattle.tulvekas.specs.Cipher.{mode-named, keystream-answer, keystream-writes, start-answer, start-leaves, run-answer, run-leaves, run-writes, state-of-answer, state-of-leaves, trace-of-bytes, mode-byte, trace-answer, trace-iv, trace-sealed};
-ghost use Rattle.tulvekas.specs.Dates.{reply-answer, reply-writes, date-bytes, date-reply, day-reply, kept-reply};
-ghost use Rattle.tulvekas.specs.Inner.{FitsBytes};
-use calendar::Date;
-use calendar::Dated;
+ghost use Rattle.tulvekas.specs.Sessions.{begin-answer, begin-leaves, data-answer, data-leaves, text-answer, text-leaves, text-writes, finish-answer, finish-leaves, finish-writes-tag, finish-writes-iv, suspend-answer, suspend-writes, resume-answer, resume-leaves, resume-writes};
+ghost use Rattle.tulvekas.specs.Cipher.{keystream-answer, keystream-writes, start-answer, start-leaves, run-answer, run-leaves, run-writes, state-of-answer, state-of-leaves, trace-of-bytes, trace-answer, trace-iv, trace-sealed};
+ghost use Rattle.tulvekas.specs.Dates.{day-reply, kept-reply};
 use calendar::Numbered;
-use cipher::State;
 use cipher::lanes;
-use ghash::Element;
 use retention::Verdict;
-use session::Session;
-use start::Mode;
 use start::Traced;
-use words::Block;
 
 // The lengths of what C hands over, under include/tulvekas.h's names.
 const KEY_BYTES: usize = 32;
@@ -50,23 +31,7 @@ const IV_BYTES: usize = 16;
 
 const TAG_BYTES: usize = 16;
 
-const SESSION_BYTES: usize = 240;
-
-const STATE_BYTES: usize = 120;
-
 const LENGTH_BYTES: usize = 8;
-
-const DATE_BYTES: usize = 4;
-
-const DAY_BYTES: usize = 8;
-
-// Sixteen bytes at a place of a buffer.
-fn put_block(out: &mut [u8], at: usize, b: [u8; 16])
-    requires { ⌜ at + 16 ≤ length (now out) ⌝ }
-    ensures { λ _. ⌜ now (out .exit) ≡ take at (now (out .entry)) ++ b ++ drop (at + 16) (now (out .entry)) ⌝ }
-{
-    words::store(out, at, words::load(&b, 0));
-}
 
 // ---- whole pages
 
@@ -107,7 +72,7 @@ pub extern "C" fn tulvekas_seal(
         return n;
     }
     let t = p.tag;
-    put_block(tag, 0, t);
+    bytes_c::put_block(tag, 0, t);
     scope::ACCEPTED
 }
 
@@ -221,105 +186,6 @@ pub extern "C" fn tulvekas_keys_erase(iv: &[u8], store: &mut [u8]) -> u64
     key_store::erase(iv, store)
 }
 
-// ---- states in bytes
-
-// A state's 120 bytes, at a place: the registers, then the count.
-fn put_state(out: &mut [u8], at: usize, s: State)
-    requires { ⌜ at + 120 ≤ length (now out) ⌝ }
-    ensures { λ _. ⌜ now (out .exit) ≡ sets (now (out .entry)) at (state-bytes (stateOf s)) ⌝ }
-{
-    let registers = s.registers;
-    suspended::put_registers(out, at, registers);
-    fields::put(out, at + 112, 8, s.count);
-}
-
-// And the state that 120 bytes at a place list.
-fn get_state(b: &[u8], at: usize) -> State
-    requires { ⌜ at + 120 ≤ length (now b) ⌝ }
-    ensures { λ r. ⌜ stateOf r ≡ state-in (part at 120 (now (b .entry))) ⌝ }
-{
-    let registers = suspended::get_registers(b, at);
-    let count = fields::get(b, at + 112, 8);
-    State {
-        registers: registers,
-        count: count,
-    }
-}
-
-// A state's bytes to the front of a buffer.
-fn store_state(out: &mut [u8], s: State)
-    requires { ⌜ 120 ≤ length (now out) ⌝ }
-    ensures { λ _. ⌜ LeavesState 0 (stateOf s) (now (out .entry)) (now (out .exit)) ⌝ }
-{
-    put_state(out, 0, s);
-}
-
-// ---- sessions in bytes
-
-// Whether a session that is to be read has its length.
-fn is_session(b: &[u8]) -> bool
-    ensures { λ r. ⌜ r ≡ is-session (now (b .entry)) ⌝ }
-{
-    b.len() == SESSION_BYTES
-}
-
-// H, the end pad and the keystream block in use, at their place.
-fn put_drawn(out: &mut [u8], h: Element, pad: Block, current: Block)
-    requires { ⌜ 240 ≤ length (now out) ⌝ }
-    ensures { λ _. ⌜ now (out .exit) ≡ sets (now (out .entry)) 144 (bytesOfElement h ++ bytesOf pad ++ bytesOf current) ⌝ }
-{
-    words::store(out, 144, ghash::to_block(h));
-    words::store(out, 160, pad);
-    words::store(out, 176, current);
-}
-
-// A session's bytes to the front of a buffer.
-fn store_session(out: &mut [u8], s: Session)
-    requires { ⌜ 240 ≤ length (now out) ⌝ }
-    ensures { λ _. ⌜ Leaves 0 (sessionOf s) (now (out .entry)) (now (out .exit)) ⌝ }
-{
-    let state = s.state;
-    let h = s.h;
-    let pad = s.pad;
-    let current = s.current;
-    let held = s.held;
-    let iv = s.iv;
-    fields::put(out, 0, 8, s.phase as u64);
-    fields::put(out, 8, 8, s.ad);
-    fields::put(out, 16, 8, s.text);
-    put_state(out, 24, state);
-    put_drawn(out, h, pad, current);
-    suspended::put_held(out, 192, held);
-    put_block(out, 224, iv);
-}
-
-// And the session that bytes list, whatever they are.
-fn load_session(b: &[u8]) -> Session
-    requires { ⌜ length (now b) ≡ 240 ⌝ }
-    ensures { λ r. ⌜ sessionOf r ≡ session-in (now (b .entry)) ⌝ }
-{
-    let phase = b[0];
-    let ad = fields::get(b, 8, 8);
-    let text = fields::get(b, 16, 8);
-    let state = get_state(b, 24);
-    let h = ghash::from_block(words::load(b, 144));
-    let pad = words::load(b, 160);
-    let current = words::load(b, 176);
-    let held = suspended::get_held(b, 192);
-    let iv = words::to_bytes(words::load(b, 224));
-    Session {
-        phase: phase,
-        ad: ad,
-        text: text,
-        state: state,
-        h: h,
-        pad: pad,
-        current: current,
-        held: held,
-        iv: iv,
-    }
-}
-
 // ---- sealing by pieces
 
 // Begins a session, in the front 240 bytes of the buffer. Refused: 1, 2, 4.
@@ -332,12 +198,12 @@ pub extern "C" fn tulvekas_begin(key: &[u8], iv: &[u8], session: &mut [u8]) -> u
     if n != 0 {
         return n;
     }
-    if session.len() < SESSION_BYTES {
+    if session.len() < bytes_c::SESSION_BYTES {
         return scope::SHORT_OUTPUT;
     }
     let b = session::begin(key, iv);
     let s = b.session;
-    store_session(session, s);
+    bytes_c::store_session(session, s);
     scope::ACCEPTED
 }
 
@@ -347,16 +213,16 @@ pub extern "C" fn tulvekas_data(session: &mut [u8], piece: &[u8]) -> u64
     ensures answer { λ r. ⌜ r ≡ data-answer (now (session .entry)) (now (piece .entry)) ⌝ }
     ensures session { λ _. ⌜ data-leaves (now (session .entry)) (now (piece .entry)) (now (session .exit)) ⌝ }
 {
-    if !is_session(session) {
+    if !bytes_c::is_session(session) {
         return scope::BAD_BLOCK;
     }
-    let d = session::data(load_session(session), piece);
+    let d = session::data(bytes_c::load_session(session), piece);
     let told = d.answer;
     if told != 0 {
         return told;
     }
     let s = d.session;
-    store_session(session, s);
+    bytes_c::store_session(session, s);
     scope::ACCEPTED
 }
 
@@ -367,16 +233,16 @@ pub extern "C" fn tulvekas_text(session: &mut [u8], piece: &[u8], out: &mut [u8]
     ensures session { λ _. ⌜ text-leaves (now (session .entry)) (now (piece .entry)) (now (out .entry)) (now (session .exit)) ⌝ }
     ensures out { λ _. ⌜ now (out .exit) ≡ text-writes (now (session .entry)) (now (piece .entry)) (now (out .entry)) ⌝ }
 {
-    if !is_session(session) {
+    if !bytes_c::is_session(session) {
         return scope::BAD_BLOCK;
     }
-    let t = session::text(load_session(session), piece, out);
+    let t = session::text(bytes_c::load_session(session), piece, out);
     let taken = t.answer;
     if taken != 0 {
         return taken;
     }
     let s = t.session;
-    store_session(session, s);
+    bytes_c::store_session(session, s);
     scope::ACCEPTED
 }
 
@@ -388,10 +254,10 @@ pub extern "C" fn tulvekas_finish(session: &mut [u8], tag: &mut [u8], iv: &mut [
     ensures tag { λ _. ⌜ now (tag .exit) ≡ finish-writes-tag (now (session .entry)) (now (tag .entry)) (now (iv .entry)) ⌝ }
     ensures iv { λ _. ⌜ now (iv .exit) ≡ finish-writes-iv (now (session .entry)) (now (tag .entry)) (now (iv .entry)) ⌝ }
 {
-    if !is_session(session) {
+    if !bytes_c::is_session(session) {
         return scope::BAD_BLOCK;
     }
-    let s = load_session(session);
+    let s = bytes_c::load_session(session);
     if s.phase >= 2 {
         return scope::OUT_OF_PHASE;
     }
@@ -405,9 +271,9 @@ pub extern "C" fn tulvekas_finish(session: &mut [u8], tag: &mut [u8], iv: &mut [
     let u = f.session;
     let t = f.tag;
     let v = f.iv;
-    store_session(session, u);
-    put_block(tag, 0, t);
-    put_block(iv, 0, v);
+    bytes_c::store_session(session, u);
+    bytes_c::put_block(tag, 0, t);
+    bytes_c::put_block(iv, 0, v);
     scope::ACCEPTED
 }
 
@@ -419,10 +285,10 @@ pub extern "C" fn tulvekas_suspend(session: &[u8], block: &mut [u8]) -> u64
     ensures answer { λ r. ⌜ r ≡ suspend-answer (now (session .entry)) (now (block .entry)) ⌝ }
     ensures block { λ _. ⌜ now (block .exit) ≡ suspend-writes (now (session .entry)) (now (block .entry)) ⌝ }
 {
-    if !is_session(session) {
+    if !bytes_c::is_session(session) {
         return scope::BAD_BLOCK;
     }
-    let p = suspend::suspend(load_session(session), block);
+    let p = suspend::suspend(bytes_c::load_session(session), block);
     p.answer
 }
 
@@ -443,7 +309,7 @@ pub extern "C" fn tulvekas_resume(
     if n != 0 {
         return n;
     }
-    if session.len() < SESSION_BYTES {
+    if session.len() < bytes_c::SESSION_BYTES {
         return scope::SHORT_OUTPUT;
     }
     if iv.len() < IV_BYTES {
@@ -451,21 +317,12 @@ pub extern "C" fn tulvekas_resume(
     }
     let s = t.session;
     let v = t.iv;
-    store_session(session, s);
-    put_block(iv, 0, v);
+    bytes_c::store_session(session, s);
+    bytes_c::put_block(iv, 0, v);
     scope::ACCEPTED
 }
 
 // ---- the cipher
-
-fn mode_named(sealed: u64) -> Mode
-    ensures { λ r. ⌜ modeOf r ≡ mode-named sealed ⌝ }
-{
-    if sealed == 0 {
-        return Mode::Plain;
-    }
-    Mode::Sealed
-}
 
 // Fills a buffer with keystream from block 0 on, as many whole blocks as fit. The mode is 0 for plain, else sealed. Refused: 1, 2, 9.
 #[no_mangle]
@@ -482,7 +339,7 @@ pub extern "C" fn tulvekas_keystream(key: &[u8], iv: &[u8], sealed: u64, out: &m
         return scope::COUNT_TOO_HIGH;
     }
     let rounds = wide_round::table();
-    let t = start::start_with(key, iv, mode_named(sealed), &rounds);
+    let t = start::start_with(key, iv, bytes_c::mode_named(sealed), &rounds);
     let s = t.state;
     let registers = s.registers;
     lanes::run_forward(registers, &rounds, out, blocks);
@@ -499,12 +356,12 @@ pub extern "C" fn tulvekas_start(key: &[u8], iv: &[u8], sealed: u64, state: &mut
     if n != 0 {
         return n;
     }
-    if state.len() < STATE_BYTES {
+    if state.len() < bytes_c::STATE_BYTES {
         return scope::SHORT_OUTPUT;
     }
-    let t = start::start(key, iv, mode_named(sealed));
+    let t = start::start(key, iv, bytes_c::mode_named(sealed));
     let s = t.state;
-    store_state(state, s);
+    bytes_c::store_state(state, s);
     scope::ACCEPTED
 }
 
@@ -516,17 +373,17 @@ pub extern "C" fn tulvekas_run(state: &mut [u8], n: u64, back: u64, out: &mut [u
     ensures state { λ _. ⌜ run-leaves (now (state .entry)) n back (now (out .entry)) (now (state .exit)) ⌝ }
     ensures out { λ _. ⌜ now (out .exit) ≡ run-writes (now (state .entry)) n back (now (out .entry)) ⌝ }
 {
-    if state.len() != STATE_BYTES {
+    if state.len() != bytes_c::STATE_BYTES {
         return scope::BAD_BLOCK;
     }
-    let s = get_state(state, 0);
+    let s = bytes_c::get_state(state, 0);
     let mut answer: u64 = 0;
     let t = cipher::run_core(s, &mut answer, out, n as usize, back != 0);
     if answer != 0 {
         return answer;
     }
     let u = t.state;
-    store_state(state, u);
+    bytes_c::store_state(state, u);
     scope::ACCEPTED
 }
 
@@ -539,21 +396,12 @@ pub extern "C" fn tulvekas_state_of(block: &[u8], state: &mut [u8]) -> u64
     if !layout::well_laid(block) {
         return scope::BAD_BLOCK;
     }
-    if state.len() < STATE_BYTES {
+    if state.len() < bytes_c::STATE_BYTES {
         return scope::SHORT_OUTPUT;
     }
     let k = suspended::read(block);
-    store_state(state, suspend::state_of(k));
+    bytes_c::store_state(state, suspend::state_of(k));
     scope::ACCEPTED
-}
-
-fn mode_number(mode: Mode) -> u8
-    ensures { λ r. ⌜ r ≡ mode-byte (modeOf mode) ⌝ }
-{
-    match mode {
-        Mode::Plain => 0,
-        Mode::Sealed => 1,
-    }
 }
 
 // Document 01's trace, from a state at its own count: the IV, and one byte that becomes 0 for plain mode and 1 for sealed. Refused: 1, 8 for a state that
@@ -567,10 +415,10 @@ pub extern "C" fn tulvekas_trace(state: &[u8], key: &[u8], iv: &mut [u8], sealed
     if key.len() != KEY_BYTES {
         return scope::KEY_LENGTH;
     }
-    if state.len() != STATE_BYTES {
+    if state.len() != bytes_c::STATE_BYTES {
         return scope::BAD_BLOCK;
     }
-    let s = get_state(state, 0);
+    let s = bytes_c::get_state(state, 0);
     let t = start::trace(s, key);
     match t {
         Traced::Refused(n) => n,
@@ -583,46 +431,14 @@ pub extern "C" fn tulvekas_trace(state: &[u8], key: &[u8], iv: &mut [u8], sealed
             }
             let mode = o.mode;
             let v = suspend::iv_bytes(o.lo, o.hi);
-            put_block(iv, 0, v);
-            sealed[0] = mode_number(mode);
+            bytes_c::put_block(iv, 0, v);
+            sealed[0] = bytes_c::mode_number(mode);
             scope::ACCEPTED
         }
     }
 }
 
 // ---- dates and keeping
-
-// The k low bytes of n, low byte first, to the front of a buffer. Refused: 4.
-fn reply(out: &mut [u8], k: usize, n: u64) -> u64
-    ensures answer { λ r. ⌜ r ≡ room k (now (out .entry)) 0 ⌝ }
-    ensures out { λ _. ⌜ now (out .exit) ≡ buffer-after (room k (now (out .entry)) 0) k (little k n) (now (out .entry)) ⌝ }
-{
-    if out.len() < k {
-        return scope::SHORT_OUTPUT;
-    }
-    fields::put(out, 0, k, n);
-    scope::ACCEPTED
-}
-
-// The number whose four low bytes are a date's.
-fn date_number(d: Date) -> u64
-    requires { ⌜ Small (dateOf d) ⌝ }
-    ensures { λ r. ⌜ little 4 r ≡ date-bytes (dateOf d) ⌝ }
-{
-    d.year + 65536 * d.month + 16777216 * d.day
-}
-
-// A date's four bytes to the front of a buffer. Refused: what the answer refuses, 4.
-fn reply_date(t: Dated, out: &mut [u8]) -> u64
-    requires { ⌜ FitsBytes (datedOf t) ⌝ }
-    ensures answer { λ r. ⌜ r ≡ reply-answer (date-reply (datedOf t)) (now (out .entry)) ⌝ }
-    ensures out { λ _. ⌜ now (out .exit) ≡ reply-writes (date-reply (datedOf t)) (now (out .entry)) ⌝ }
-{
-    match t {
-        Dated::Refused(n) => n,
-        Dated::Found(d) => reply(out, DATE_BYTES, date_number(d)),
-    }
-}
 
 // The date of a day, in four bytes: the year, low byte first, the month, the day. Days count from 1 January 2000 as 0. Refused: 12 for a day after 73,048, 4.
 #[no_mangle]
@@ -631,7 +447,7 @@ pub extern "C" fn tulvekas_date(day: u64, date: &mut [u8]) -> u64
     ensures date { λ _. ⌜ now (date .exit) ≡ reply-writes (date-reply (to-date day)) (now (date .entry)) ⌝ }
 {
     let t = calendar::to_date(day);
-    reply_date(t, date)
+    bytes_c::reply_date(t, date)
 }
 
 // The day of a date, in 8 bytes, low byte first. Refused: 12 for a date that the calendar lacks or outside the years 2000 to 2199, 4.
@@ -643,7 +459,7 @@ pub extern "C" fn tulvekas_day(year: u64, month: u64, day: u64, number: &mut [u8
     let t = calendar::to_day(year, month, day);
     match t {
         Numbered::Refused(n) => n,
-        Numbered::Found(n) => reply(number, DAY_BYTES, n),
+        Numbered::Found(n) => bytes_c::reply(number, bytes_c::DAY_BYTES, n),
     }
 }
 
@@ -656,8 +472,8 @@ pub extern "C" fn tulvekas_kept(today: u64, departure: u64, kept: &mut [u8]) -> 
     let v = retention::kept(today, departure);
     match v {
         Verdict::Refused(n) => n,
-        Verdict::Kept => reply(kept, 1, 1),
-        Verdict::NotKept => reply(kept, 1, 0),
+        Verdict::Kept => bytes_c::reply(kept, 1, 1),
+        Verdict::NotKept => bytes_c::reply(kept, 1, 0),
     }
 }
 
@@ -668,5 +484,5 @@ pub extern "C" fn tulvekas_kept_until(departure: u64, date: &mut [u8]) -> u64
     ensures date { λ _. ⌜ now (date .exit) ≡ reply-writes (date-reply (kept-until departure)) (now (date .entry)) ⌝ }
 {
     let t = retention::kept_until(departure);
-    reply_date(t, date)
+    bytes_c::reply_date(t, date)
 }

@@ -151,7 +151,7 @@ impl Session {
         Ok((xor(&hash, &self.end_pad), self.iv))
     }
 
-    /// The session in 240 bytes, as C keeps it. The documents leave the form open; it is that of crates/tulvekas/specs/SessionBytes.antt:
+    /// The session in 240 bytes, as C keeps it. The documents leave the form open; it is that of crates/bytes_c/specs/SessionBytes.antt:
     /// 0-7 phase, 8-15 data length, 16-23 text length, 24-143 the state, 144-159 H, 160-175 end pad, 176-191 the keystream block drawn
     /// last, 192-207 the hash so far, 208-223 the bytes not yet hashed, 224-239 the IV.
     pub fn to_bytes(&self) -> [u8; 240] {

@@ -1,7 +1,8 @@
 -- `tulvekas::tulvekas_begin` meets its contract, by the three lengths.
 use denote.Ref.{now}
 use Rattle.session.specs.Calls.{begin-call}
-use Rattle.tulvekas.proofs.Answering.{never, leaves-all, leaves-stored}
+use Rattle.bytes_c.proofs.Answering.{never}
+use Rattle.tulvekas.proofs.Answering.{leaves-all, leaves-stored}
 use Rattle.tulvekas.proofs.SessionAnswers.{begin-refused, begin-short, begin-right}
 use borrow.Author.Needs.{needs}
 use Rattle.tulvekas.proofs.tulvekas_begin.Statement.{statement}

@@ -5,9 +5,10 @@ use lib.ListN.{length}
 use denote.Ref.{now}
 use Rattle.session.specs.Session.{Session}
 use Rattle.session.specs.Calls.{Given, data-call}
-use Rattle.tulvekas.specs.SessionBytes.{session-in}
+use Rattle.bytes_c.specs.SessionBytes.{session-in}
+use Rattle.bytes_c.proofs.Answering.{never}
 use Rattle.tulvekas.specs.Sessions.{data-answer}
-use Rattle.tulvekas.proofs.Answering.{never, leaves-all, leaves-stored, torn, long}
+use Rattle.tulvekas.proofs.Answering.{leaves-all, leaves-stored, torn, long}
 use Rattle.tulvekas.proofs.SessionAnswers.{below-number, below-session}
 use borrow.Author.Needs.{needs}
 use Rattle.tulvekas.proofs.tulvekas_data.Statement.{statement}

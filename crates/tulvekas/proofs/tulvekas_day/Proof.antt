@@ -4,8 +4,8 @@ use denote.Ref.{now}
 use Rattle.words.specs.Bytes.{little}
 use Rattle.words.proofs.Bytes.{little-long}
 use Rattle.calendar.specs.Machine.{numberedOf}
+use Rattle.bytes_c.proofs.Replies.{reply-refused, reply-bytes}
 use Rattle.tulvekas.specs.Dates.{day-reply}
-use Rattle.tulvekas.proofs.Replies.{reply-refused, reply-bytes}
 use borrow.Author.Needs.{needs}
 use Rattle.tulvekas.proofs.tulvekas_day.Statement.{statement}
 use Rattle.tulvekas.proofs.tulvekas_day.Tie as tie

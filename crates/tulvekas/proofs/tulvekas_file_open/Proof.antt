@@ -12,7 +12,7 @@ use Rattle.words.proofs.Writing.{put-front}
 use Rattle.page_file.specs.Layout.{text-length}
 use Rattle.page_file.specs.Calls.{page-of, open-out}
 use Rattle.page_file.proofs.Writing.{opened-text, room-for, length-is}
-use Rattle.tulvekas.proofs.Answering.{never, refused, unwritten, accepted}
+use Rattle.bytes_c.proofs.Answering.{never, refused, unwritten, accepted}
 use Rattle.tulvekas.proofs.FileAnswers.{open-refused, open-short, open-right}
 use Rattle.tulvekas.proofs.tulvekas_file_open.Statement.{statement}
 use Rattle.tulvekas.proofs.tulvekas_file_open.Tie as tie

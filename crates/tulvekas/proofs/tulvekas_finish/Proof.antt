@@ -7,10 +7,11 @@ use lib.ListN.{length, drop}
 use denote.Ref.{now}
 use Rattle.session.specs.Machine.{finishedOf}
 use Rattle.session.specs.Calls.{finish-call, Finished}
-use Rattle.tulvekas.specs.Order.{next, room, buffer-after}
-use Rattle.tulvekas.specs.SessionBytes.{session-in, Leaves}
+use Rattle.bytes_c.specs.Order.{next, room, buffer-after}
+use Rattle.bytes_c.specs.SessionBytes.{session-in, Leaves}
+use Rattle.bytes_c.proofs.Answering.{never, unwritten, accepted}
 use Rattle.tulvekas.specs.Sessions.{finish-answer}
-use Rattle.tulvekas.proofs.Answering.{never, unwritten, accepted, leaves-all, leaves-stored, torn, long}
+use Rattle.tulvekas.proofs.Answering.{leaves-all, leaves-stored, torn, long}
 use Rattle.tulvekas.proofs.SessionAnswers.{finish-ended, finish-short, finish-short-iv, finish-right}
 use borrow.Author.Needs.{needs}
 use Rattle.tulvekas.proofs.tulvekas_finish.Statement.{statement}

@@ -4,8 +4,8 @@ use mathlib.Core.List.{[], _∷_}
 use denote.Ref.{now}
 use Rattle.words.specs.Bytes.{little}
 use Rattle.retention.specs.Machine.{verdictOf}
+use Rattle.bytes_c.proofs.Replies.{reply-refused, reply-bytes}
 use Rattle.tulvekas.specs.Dates.{kept-reply}
-use Rattle.tulvekas.proofs.Replies.{reply-refused, reply-bytes}
 use borrow.Author.Needs.{needs}
 use Rattle.tulvekas.proofs.tulvekas_kept.Statement.{statement}
 use Rattle.tulvekas.proofs.tulvekas_kept.Tie as tie

@@ -8,8 +8,9 @@ use denote.Ref.{now}
 use lib.ListN.{length, drop}
 use lib.Seq.{take-all}
 use Rattle.key_store.specs.Calls.{fetch-key}
+use Rattle.bytes_c.proofs.Answering.{never, unwritten, accepted}
 use Rattle.tulvekas.specs.Keys.{keys-fetch-answer}
-use Rattle.tulvekas.proofs.Answering.{never, unwritten, accepted, then-refused, then-short, then-fits}
+use Rattle.tulvekas.proofs.Answering.{then-refused, then-short, then-fits}
 use Rattle.tulvekas.proofs.tulvekas_keys_fetch.Statement.{statement}
 use Rattle.tulvekas.proofs.tulvekas_keys_fetch.Tie as tie
 

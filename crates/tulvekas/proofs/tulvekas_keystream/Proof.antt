@@ -10,8 +10,9 @@ use Rattle.cipher.specs.State.{State}
 use Rattle.cipher.specs.Machine.{registersOf}
 use Rattle.cipher.proofs.Typed.{every-state}
 use Rattle.start.specs.Start.{start}
-use Rattle.tulvekas.specs.Cipher.{mode-named, fitting}
-use Rattle.tulvekas.proofs.Answering.{never, unwritten, accepted}
+use Rattle.bytes_c.specs.Modes.{mode-named}
+use Rattle.bytes_c.proofs.Answering.{never, unwritten, accepted}
+use Rattle.tulvekas.specs.Cipher.{fitting}
 use Rattle.tulvekas.proofs.CipherAnswers.{keystream-refused, keystream-far, keystream-right, run-fills}
 use borrow.Author.Needs.{needs}
 use Rattle.tulvekas.proofs.tulvekas_keystream.Statement.{statement}

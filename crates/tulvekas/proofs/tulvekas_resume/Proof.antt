@@ -6,7 +6,8 @@ use lib.ListN.{drop}
 use denote.Ref.{now}
 use Rattle.suspend.specs.Calls.{Resumed}
 use Rattle.suspend.specs.Walk.{resume-call}
-use Rattle.tulvekas.proofs.Answering.{never, unwritten, accepted, leaves-all, leaves-stored}
+use Rattle.bytes_c.proofs.Answering.{never, unwritten, accepted}
+use Rattle.tulvekas.proofs.Answering.{leaves-all, leaves-stored}
 use Rattle.tulvekas.proofs.SessionAnswers.{resume-refused, resume-short, resume-short-iv, resume-right}
 use borrow.Author.Needs.{needs}
 use Rattle.tulvekas.proofs.tulvekas_resume.Statement.{statement}

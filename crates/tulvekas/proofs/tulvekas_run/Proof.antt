@@ -6,11 +6,11 @@ use Rattle.cipher.specs.Run.{blocks}
 use Rattle.cipher.specs.State.{moved}
 use Rattle.cipher.specs.Machine.{stateOf}
 use Rattle.cipher.proofs.Typed.{every-state}
-use Rattle.tulvekas.specs.StateBytes.{state-in}
+use Rattle.bytes_c.specs.StateBytes.{state-in}
+use Rattle.bytes_c.proofs.Answering.{never, unwritten}
 use Rattle.tulvekas.specs.Cipher.{back-named}
-use Rattle.tulvekas.proofs.Answering.{never, unwritten, state-leaves-all, state-leaves-stored}
-use Rattle.tulvekas.proofs.StateLaws.{whole-state}
-use Rattle.tulvekas.proofs.CipherAnswers.{run-bad-state, run-below, run-moves, run-unwritten, run-written}
+use Rattle.tulvekas.proofs.Answering.{state-leaves-all, state-leaves-stored}
+use Rattle.tulvekas.proofs.CipherAnswers.{whole-state, run-bad-state, run-below, run-moves, run-unwritten, run-written}
 use borrow.Author.Needs.{needs}
 use Rattle.tulvekas.proofs.tulvekas_run.Statement.{statement}
 use Rattle.tulvekas.proofs.tulvekas_run.Tie as tie

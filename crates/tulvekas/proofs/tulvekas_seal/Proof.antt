@@ -5,7 +5,8 @@ use mathlib.Core.List.{List, _++_}
 use lib.ListN.{drop}
 use denote.Ref.{now}
 use Rattle.page.specs.Calls.{seal-number, seal-out, seal-tag}
-use Rattle.tulvekas.proofs.Answering.{refused, unwritten, accepted, four-later}
+use Rattle.bytes_c.proofs.Answering.{refused, unwritten, accepted}
+use Rattle.tulvekas.proofs.Answering.{four-later}
 use Rattle.tulvekas.proofs.PageAnswers.{seal-no-room, seal-room, seal-left}
 use borrow.Author.Needs.{needs}
 use Rattle.tulvekas.proofs.tulvekas_seal.Statement.{statement}

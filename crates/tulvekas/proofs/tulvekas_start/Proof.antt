@@ -2,8 +2,9 @@
 use mathlib.Core.Path.{sym, ap, _∙_}
 use denote.Ref.{now}
 use Rattle.start.specs.Start.{started}
-use Rattle.tulvekas.specs.Cipher.{mode-named}
-use Rattle.tulvekas.proofs.Answering.{never, accepted, state-leaves-all, state-leaves-stored}
+use Rattle.bytes_c.specs.Modes.{mode-named}
+use Rattle.bytes_c.proofs.Answering.{never, accepted}
+use Rattle.tulvekas.proofs.Answering.{state-leaves-all, state-leaves-stored}
 use Rattle.tulvekas.proofs.CipherAnswers.{start-refused, start-short, start-right}
 use borrow.Author.Needs.{needs}
 use Rattle.tulvekas.proofs.tulvekas_start.Statement.{statement}

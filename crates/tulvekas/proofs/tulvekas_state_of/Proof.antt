@@ -10,7 +10,8 @@ use Rattle.layout.specs.Block.{Suspended, read}
 use Rattle.layout.specs.Rules.{well-laid}
 use Rattle.layout.proofs.Obeying.{laid-long, laid-text}
 use Rattle.suspend.specs.Calls.{state-of}
-use Rattle.tulvekas.proofs.Answering.{never, state-leaves-all, state-leaves-stored}
+use Rattle.bytes_c.proofs.Answering.{never}
+use Rattle.tulvekas.proofs.Answering.{state-leaves-all, state-leaves-stored}
 use Rattle.tulvekas.proofs.CipherAnswers.{state-of-bad, state-of-short, state-of-right}
 use Rattle.tulvekas.proofs.tulvekas_state_of.Statement.{statement}
 use Rattle.tulvekas.proofs.tulvekas_state_of.Tie as tie

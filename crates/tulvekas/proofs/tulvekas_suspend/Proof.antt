@@ -5,9 +5,10 @@ use denote.Ref.{now}
 use Rattle.session.specs.Session.{Session}
 use Rattle.session.specs.Calls.{Given}
 use Rattle.suspend.specs.Calls.{suspend-call}
-use Rattle.tulvekas.specs.SessionBytes.{session-in}
+use Rattle.bytes_c.specs.SessionBytes.{session-in}
+use Rattle.bytes_c.proofs.Answering.{never, refused}
 use Rattle.tulvekas.specs.Sessions.{suspend-answer}
-use Rattle.tulvekas.proofs.Answering.{never, refused, torn, long}
+use Rattle.tulvekas.proofs.Answering.{torn, long}
 use Rattle.tulvekas.proofs.SessionAnswers.{suspend-again, below-number, below-out}
 use borrow.Author.Needs.{needs}
 use Rattle.tulvekas.proofs.tulvekas_suspend.Statement.{statement}

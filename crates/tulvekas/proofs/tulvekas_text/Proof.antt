@@ -5,9 +5,10 @@ use lib.ListN.{length}
 use denote.Ref.{now}
 use Rattle.session.specs.Session.{Session}
 use Rattle.session.specs.Calls.{Given, text-call}
-use Rattle.tulvekas.specs.SessionBytes.{session-in}
+use Rattle.bytes_c.specs.SessionBytes.{session-in}
+use Rattle.bytes_c.proofs.Answering.{never, refused}
 use Rattle.tulvekas.specs.Sessions.{text-answer}
-use Rattle.tulvekas.proofs.Answering.{never, refused, leaves-all, leaves-stored, torn, long}
+use Rattle.tulvekas.proofs.Answering.{leaves-all, leaves-stored, torn, long}
 use Rattle.tulvekas.proofs.SessionAnswers.{text-again, below-number, below-session, below-out}
 use borrow.Author.Needs.{needs}
 use Rattle.tulvekas.proofs.tulvekas_text.Statement.{statement}

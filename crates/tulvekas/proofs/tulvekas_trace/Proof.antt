@@ -7,10 +7,10 @@ use denote.Ref.{now}
 use Rattle.cipher.specs.State.{State}
 use Rattle.start.specs.Trace.{trace}
 use Rattle.start.specs.Machine.{modeOf, tracedOf}
-use Rattle.tulvekas.specs.Cipher.{trace-of-bytes, mode-byte}
+use Rattle.bytes_c.specs.Modes.{mode-byte}
+use Rattle.tulvekas.specs.Cipher.{trace-of-bytes}
 use Rattle.tulvekas.proofs.Answering.{set-first}
-use Rattle.tulvekas.proofs.StateLaws.{whole-state}
-use Rattle.tulvekas.proofs.CipherAnswers.{trace-bad-key, trace-bad-state, trace-walks, told-refused, told-short-iv, told-short-sealed, told-found}
+use Rattle.tulvekas.proofs.CipherAnswers.{whole-state, trace-bad-key, trace-bad-state, trace-walks, told-refused, told-short-iv, told-short-sealed, told-found}
 use borrow.Author.Needs.{needs}
 use Rattle.tulvekas.proofs.tulvekas_trace.Statement.{statement}
 use Rattle.tulvekas.proofs.tulvekas_trace.Tie as tie
