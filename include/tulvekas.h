@@ -7,7 +7,8 @@
  *     every other must point to that many bytes. That, and that a buffer which a call writes overlaps no other buffer of the same call, is all
  *     that a caller has to see to: every length and every content is answered.
  *   - A call answers 0 (TULVEKAS_ACCEPTED) or the number of a refusal. Each refusal is given if, and only if, its condition holds and that of
- *     no earlier one in the call's order does. A refusal changes no lent byte.
+ *     no earlier one in the call's order does. A refusal changes no lent byte, with one exception: where tulvekas_search answers 6, it
+ *     writes the steps that it walked, if there is room for them.
  *   - A lent buffer may be longer than what is written. Bytes beyond what a call writes never change.
  *   - Nothing is kept between calls but what the caller was handed, and no memory is claimed: calls from several threads do not meet, as long
  *     as no buffer that one of them writes is lent to another.
@@ -22,16 +23,18 @@
  *     the buffers lent to it stays as it was; that it ends, and stays inside those buffers. Ciphertext and tag are those of definitions that
  *     render the paper, by pieces and in a page file as well; a session resumed is the one suspended; as many blocks back as forward, or
  *     forward as back, give the state again where neither run is refused; a trace finds the IV and mode that led to a state, and 6 exactly if
- *     none did; the date of a day has that day again, and later days later dates; a page is kept up to its last date and on no later day; a
- *     stay's key that was stored is fetched until it is erased, and then the store is the one that any other key would have left.
+ *     none did; a search finds the least count in its range at which some led there, and 6 exactly if there is none; the date of a day has
+ *     that day again, and later days later dates; a page is kept up to its last date and on no later day; a stay's key that was stored is
+ *     fetched until it is erased, and then the store is the one that any other key would have left.
  *     docs/PROMISES.md has the statements, and what they assume.
  *   - Tested: that this page and the code agree. tests/differential compares every call with an implementation in Rust that was written from
  *     the documents, or from the definitions where these leave a session's bytes open, and the declarations and numbers below with those
  *     that the tests use.
- *   - Measured: the stack. tests/differential measures each call at six sizes of page, of file or of store, and finds none that takes more than
- *     16 KiB.
+ *   - Measured: the stack. tests/differential measures each call at six sizes of page, of file, of store or of range, and finds none that takes
+ *     more than 16 KiB.
  *   - Read off the code: no function calls itself, directly or by way of others; none claims memory or has a variable that outlives the call;
- *     tulvekas_open, tulvekas_file_open and tulvekas_keys_fetch compare all 16 bytes of the tag before they write a byte.
+ *     tulvekas_open, tulvekas_file_open and tulvekas_keys_fetch compare all 16 bytes of the tag before they write a byte; tulvekas_search counts
+ *     each step back where it takes it, and takes no others.
  */
 #ifndef TULVEKAS_H
 #define TULVEKAS_H
@@ -51,6 +54,9 @@ extern "C" {
 #define TULVEKAS_SESSION_BYTES 240    /* a session between two calls; its contents are secret */
 #define TULVEKAS_SUSPENDED_BYTES 512  /* a suspended block; secret too */
 #define TULVEKAS_STATE_BYTES 120      /* a state: the cipher's registers and their count of blocks; secret too */
+#define TULVEKAS_DUMP_BYTES 112       /* the registers alone; secret too */
+#define TULVEKAS_COUNT_BYTES 8        /* the count that tulvekas_search writes */
+#define TULVEKAS_STEPS_BYTES 8        /* the steps that it has walked */
 #define TULVEKAS_PAGE_BYTES 512       /* a page of a page file */
 #define TULVEKAS_STAY_BYTES 12        /* a stay in a page file: with a page number of 4 bytes it is an IV */
 #define TULVEKAS_LENGTH_BYTES 8       /* the length of the text that tulvekas_file_open wrote */
@@ -76,11 +82,12 @@ extern "C" {
                                     * text over 474 bytes */
 #define TULVEKAS_SHORT_OUTPUT 4    /* a lent buffer is shorter than what must be written; a key store has no empty block */
 #define TULVEKAS_BAD_TAG 5         /* the tag is not the page's; of a key store: not the sealed key's */
-#define TULVEKAS_NO_ORIGIN 6       /* no IV and mode lead to this state; at resume, none in sealed mode */
+#define TULVEKAS_NO_ORIGIN 6       /* no IV and mode lead to this state; at resume, none in sealed mode; of a search: at no count in its range */
 #define TULVEKAS_OUT_OF_PHASE 7    /* data behind text, or anything behind finish */
-#define TULVEKAS_BAD_BLOCK 8       /* a suspended block breaks a rule of its layout; a session or state has another length than above; a key
-                                    * store breaks one of its rules */
-#define TULVEKAS_COUNT_TOO_HIGH 9  /* more than 65,538 blocks: to be drawn at once, in a state's count, or where a run or a text would lead */
+#define TULVEKAS_BAD_BLOCK 8       /* a suspended block breaks a rule of its layout; a session, state or dump has another length than above; a
+                                    * key store breaks one of its rules */
+#define TULVEKAS_COUNT_TOO_HIGH 9  /* more than 65,538 blocks: to be drawn at once, in a state's count, where a run or a text would lead, or at
+                                    * the highest of a range */
 #define TULVEKAS_TAG_LENGTH 10     /* tag not 16 bytes */
 #define TULVEKAS_MALFORMED 11      /* the input of the program `seal` is malformed; no call here gives it */
 #define TULVEKAS_DAY_RANGE 12      /* a day outside 0 to 73,048, or a date that the calendar lacks or outside the years 2000 to 2199 */
@@ -89,6 +96,7 @@ extern "C" {
 #define TULVEKAS_BEFORE_START 15   /* a run back past the start, where the count is 0 */
 #define TULVEKAS_NUMBER_TAKEN 16   /* the stay number stands in the key store already, held or erased */
 #define TULVEKAS_NO_KEY 17         /* the stay number is not in the key store, or its key was erased */
+#define TULVEKAS_RANGE_ORDER 18    /* a range of counts whose lowest is above its highest */
 
 /* ---- whole pages
  *
@@ -208,7 +216,17 @@ uint64_t tulvekas_resume(const uint8_t *key, size_t key_len, const uint8_t *bloc
  *     tulvekas_run(state, sizeof state, BLOCKS, 1, back, sizeof back)
  *
  * The last call leaves the state that the start wrote, and back has the blocks of forward, the last one first. examples/states.c makes these
- * calls. */
+ * calls.
+ *
+ * A dump is TULVEKAS_DUMP_BYTES bytes: the registers, bytes 16-127 of a suspended block or bytes 0-111 of a state, of which the count is lost.
+ * Where a lowest count and a highest are known, a search finds the least count of that range at which an IV and mode lead to the dump, and these.
+ * That is the lost one, unless a lesser count of the range leads there too. The dump with the count found behind it is a state:
+ *
+ *     tulvekas_search(dump, sizeof dump, key, sizeof key, LOWEST, HIGHEST, count, sizeof count, found, sizeof found, sealed, 1, steps, sizeof steps)
+ *     tulvekas_run(state, sizeof state, drawn, 1, stream, sizeof stream)
+ *
+ * The second call runs that state back to its start, drawn being the count. examples/dump.c makes these calls, and reads by the blocks that come
+ * out what the session had sealed. */
 
 /* Gives keystream from block 0 on, as many whole blocks as fit in out.
  * sealed is 0 for plain mode, any other number for sealed mode.
@@ -233,6 +251,18 @@ uint64_t tulvekas_run(uint8_t *state, size_t state_len, uint64_t n, uint64_t bac
  * Refuses: 1, 8 (state not 120 bytes), 9 (its count over 65,538), 6, 4 (iv shorter than 16, or sealed shorter than 1). */
 uint64_t tulvekas_trace(const uint8_t *state, size_t state_len, const uint8_t *key, size_t key_len, uint8_t *iv, size_t iv_len, uint8_t *sealed,
                         size_t sealed_len);
+
+/* Finds the least count from lowest to highest, both included, at which an IV and mode lead to a dump under a key, and these. What is asked is the
+ * least: should an IV and mode lead there at a greater count too, at which the dump may have been made, a search from one above the least goes on.
+ * The steps are those walked back: c + 16 * (c - lowest + 1), c being the count found, or the highest where none is; one for each block up to c, and
+ * 16 at each count tried. The time grows with them. All counts from 0 to 65,538 take 1,114,162 steps.
+ * Writes: the count, 8 bytes low byte first, to the front of count; 16 bytes to the front of iv; 0 (plain mode) or 1 (sealed mode) to the first byte
+ * of sealed; the steps, 8 bytes low byte first, to the front of steps. Where it answers 6: the steps, if that buffer has at least 8 bytes, and nothing
+ * else. Never the dump.
+ * Refuses: 1, 8 (dump not 112 bytes), 9 (highest over 65,538), 18 (lowest above highest), 6 (at no count in the range), 4 (count or steps shorter
+ * than 8, iv shorter than 16, or sealed shorter than 1). */
+uint64_t tulvekas_search(const uint8_t *dump, size_t dump_len, const uint8_t *key, size_t key_len, uint64_t lowest, uint64_t highest, uint8_t *count,
+                         size_t count_len, uint8_t *iv, size_t iv_len, uint8_t *sealed, size_t sealed_len, uint8_t *steps, size_t steps_len);
 
 /* Gives the state of a suspended block with its count: a session has drawn 2 + (t + 15) / 16 blocks, t being its text length. It takes no key, so
  * that whether an IV leads there is for tulvekas_trace to say.

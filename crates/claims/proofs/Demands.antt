@@ -65,7 +65,7 @@ unfolding begin-call
 accepted (in-session key iv cs) k v = both-right (key .list) (iv .list) k v
 accepted (in-runs key iv m rs) k v = both-right (key .list) (iv .list) k v
 
-key-row : (a : History) → Accepted a → Row 32 256 (key-of a)
+pub key-row : (a : History) → Accepted a → Row 32 256 (key-of a)
 key-row (in-session key iv cs) e = row-of key (begin-keyed key iv e .key-long)
 key-row (in-runs key iv m rs) e = row-of key (start-keyed key iv e .key-long)
 
@@ -99,7 +99,7 @@ one a b p q k n e =
     let l : LeadsTo (key-of a) (drawn a) (iv-of b) (mode-of b) (end a) = rw (k, n, e) (leads b q) in
     leads-one (key-of a) (key-row a p) (drawn a) (leads a p) l
 
-end-good : (a : History) → Accepted a → IsRegisters (end a)
+pub end-good : (a : History) → Accepted a → IsRegisters (end a)
 end-good a e =
     let l = leads a e in
     subst IsRegisters (l .arrives) (drawn-good (key-of a) (key-row a e) (iv-of a) (mode-of a) (l .iv-block) (drawn a))

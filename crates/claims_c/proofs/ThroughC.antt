@@ -7,13 +7,15 @@ use native.Mathlib.Omega.{arith}
 use borrow.Author.Tests.{eqb-true}
 use lib.Dec.{eqb}
 use lib.ListN.{length, take, drop}
+use lib.Seq.{take-at}
 use Rattle.scope.specs.Refusals.{pick, refuse, granted, out-of-phase}
-use Rattle.words.specs.Bytes.{Row, IsBlock, zeros, part}
+use Rattle.words.specs.Bytes.{Row, IsBlock, little, zeros, part}
 use Rattle.cipher.specs.State.{State}
 use Rattle.start.specs.Start.{Mode.plain, Mode.sealed, start-number}
 use Rattle.start.specs.Leads.{Traced, Traced.origin, Traced.refused}
 use Rattle.start.specs.Trace.{trace}
-use Rattle.layout.specs.Block.{read}
+use Rattle.layout.specs.Block.{registers-bytes, read}
+use Rattle.layout.proofs.RegisterBytes.{good-row}
 use Rattle.layout.specs.Rules.{well-laid}
 use Rattle.start.proofs.Answers.{both-right}
 use Rattle.session.specs.Session.{Session}
@@ -21,6 +23,7 @@ use Rattle.session.specs.Calls.{begin-call, finish-call}
 use Rattle.suspend.specs.Calls.{state-of, suspend-call, Resumed, revived}
 use Rattle.suspend.specs.Walk.{by-origin, resume-call}
 use Rattle.suspend.proofs.RoundTrip.{Led, suspend-session}
+use Rattle.suspend.proofs.Resuming.{resumed-laid}
 use Rattle.claims.specs.Lists.{Bytes, Call, Call.give-data, Call.give-text, Call.suspend-alone, Call.suspend-and-resume, Trail, left-by, call, calls, after, Run, course, History, History.in-session, History.in-runs, Source, Source.by-begin, Source.by-resume, source-key, source-number, source-session, source-iv, goes-on, come-to, ends}
 use Rattle.claims.specs.Claims.{Keyed, suspended-number, suspended-out, Resumes}
 use Rattle.claims.proofs.Demands.{seals-by-pieces, one-stay-per-state}
@@ -28,7 +31,9 @@ use Rattle.claims.proofs.Within.{row-of}
 use Rattle.claims.proofs.Suspending.{left-same, stage-led}
 use Rattle.claims.proofs.Reached.{after-reached}
 use Rattle.claims.proofs.Knowing.{Placed, called, ended, gone-on, placed-known, from, knows-its-stay}
+use Rattle.claims_search.proofs.Claimed.{search-claims}
 use Rattle.bytes_c.specs.Order.{room}
+use Rattle.bytes_c.specs.StateBytes.{state-bytes}
 use Rattle.bytes_c.specs.SessionBytes.{session-bytes, session-in}
 use Rattle.bytes_c.specs.Modes.{mode-named}
 use Rattle.bytes_c.proofs.Sizes.{Sized}
@@ -36,10 +41,11 @@ use Rattle.tulvekas.specs.Sessions.{begin-answer, finish-writes-iv, suspend-wri
 use Rattle.tulvekas.proofs.SessionAnswers.{begin-right, resume-right}
 use Rattle.tulvekas.proofs.CipherAnswers.{state-of-right}
 use Rattle.claims_c.specs.Lists.{left, Buffers, CCall, c-call, c-calls, c-after, below, left-state, c-course, CSessionCall, CSessionCall.as-before, CSessionCall.finish, c-goes-on, c-source, c-come-to, session-below}
-use Rattle.claims_c.specs.ThroughC.{Stands, ResumesThroughC, TracesThroughC, NamedThroughC, ThroughC}
+use Rattle.claims_c.specs.ThroughC.{Stands, ResumesThroughC, TracesThroughC, NamedThroughC, FindsThroughC, ThroughC}
 use Rattle.claims_c.proofs.CipherThroughC.{keystream, tells-state, traces, seals}
 use Rattle.claims_c.proofs.FilesThroughC.{opens-file}
 use Rattle.claims_c.proofs.KeysThroughC.{fetches-key, key-fetched, key-gone}
+use Rattle.claims_c.proofs.SearchThroughC.{searches, finds-dump}
 use Rattle.claims_c.proofs.DatesThroughC.{day-through, kept-through, kept-byte, no-date, no-day, no-kept-date, no-verdict, no-room}
 use Rattle.claims_c.proofs.OnBytes.{stored, bytes, stands, data-left, text-left, answered, resumed-left, resumed-iv, resumed-fresh, both-fit, finish-left, finish-short, sized-open, sized}
 use Rattle.claims_c.proofs.StatesOnBytes.{stored-state, course-sized, course-left, stands-course, returned}
@@ -97,17 +103,7 @@ module _ (key iv : List ℕ) (k : Row 32 256 key) (v : IsBlock iv) where
       ap (λ (b : List ℕ). c-calls key b cs) (step false (t .session) l (c .buffers) (c .call) ∙ ap session-bytes e)
       ∙ steps (call key t (c .call)) (subst (Placed key iv k v false) e (called key iv k v false (t .session) (c .call) l)) cs
 
--- a block that is resumed from obeys the layout rules, and so has 512 bytes
-resumed-laid : (key b : List ℕ) → resume-call key b .number ≡ 0 → well-laid b ≡ true
-unfolding resume-call
-resumed-laid key b n = go (eqb (length key) 32) refl (well-laid b) refl
-  where
-    go : (i : Bool) → eqb (length key) 32 ≡ i → (j : Bool) → well-laid b ≡ j → well-laid b ≡ true
-    go true p true q = q
-    go true p false q = absurd (let z = rw q at (rw p at n) in omega arith)
-    go false p j q = absurd (let z = rw p at n in omega arith)
-
--- and the session that is had from it has the state that it says
+-- the session that is had from a block has the state that it says
 resumed-state : (key b : List ℕ) → resume-call key b .number ≡ 0 → resume-call key b .session .state ≡ state-of (read b)
 unfolding resume-call by-origin revived
 resumed-state key b n = go (eqb (length key) 32) refl (well-laid b) refl
@@ -265,6 +261,30 @@ names-run key iv l mode state room-120 rs =
     subst (λ (b : List ℕ). TracesThroughC b (key .list) (origin (iv .list) (mode-named mode))) (sym (course-left key iv l mode state room-120 rs))
     (tells-state (course key iv (mode-named mode) rs .state) (course-sized key iv l mode state room-120 rs) (key .list) found)
 
+-- ---- the search
+
+finds : (key iv : Bytes) → Keyed key iv → (session : List ℕ) → length session ≡ 240 → (cs : List CCall) (out : Bytes) → 512 ≤ length (out .list)
+    → (dump : Bytes) → dump .list ≡ part 16 112 (suspend-writes (c-after key iv session cs) (out .list))
+    → FindsThroughC (in-session key iv (below cs)) (dump .list)
+finds key iv l session room-240 cs out room-512 dump is =
+    let h : History = in-session key iv (below cs) in
+    let e = one-stay-per-state .accepted h (l .key-long) (l .iv-long) in
+    finds-dump h e dump
+    (search-claims .suspended key iv (below cs) e out dump (both key iv l session room-240 cs out room-512 .0)
+    (is ∙ ap (part 16 112) (stands-after key iv l session room-240 cs .suspend-output (out .list))))
+
+finds-run : (key iv : Bytes) → Keyed key iv → (mode : ℕ) (state : List ℕ) → length state ≡ 120 → (rs : List Run) (dump : Bytes)
+    → dump .list ≡ part 0 112 (c-course key iv mode state rs) → FindsThroughC (in-runs key iv (mode-named mode) rs) (dump .list)
+unfolding state-bytes
+finds-run key iv l mode state room-120 rs dump is =
+    let h : History = in-runs key iv (mode-named mode) rs in
+    let e = one-stay-per-state .accepted h (l .key-long) (l .iv-long) in
+    let s : State = course key iv (mode-named mode) rs .state in
+    let long = good-row (s .registers) (course-sized key iv l mode state room-120 rs .registers-good) .long in
+    finds-dump h e dump
+    (search-claims .ran key iv (mode-named mode) rs e dump
+    (is ∙ ap (part 0 112) (course-left key iv l mode state room-120 rs) ∙ take-at (registers-bytes (s .registers)) (little 8 (s .count)) 112 long))
+
 pub through-c : ThroughC
 through-c =
     record {
@@ -285,6 +305,9 @@ through-c =
       traces = traces;
       names = λ key iv l session room cs out room-512. names key iv l session room cs out room-512;
       names-run = names-run;
+      searches = searches;
+      finds = finds;
+      finds-run = finds-run;
       days = day-through;
       kept-dates = kept-through;
       kept = kept-byte;

@@ -2,11 +2,12 @@
 use Prim.Native.Nat.{ℕ, _*_, _≤_, _<_}
 use mathlib.Core.Path.{_≡_}
 use mathlib.Core.Logic.{_⊎_}
-use mathlib.Core.Bool.{true, not}
+use mathlib.Core.Bool.{true, not, _&&_}
 use mathlib.Core.List.{List, _∷_, _++_}
+use lib.Dec.{eqb, leb}
 use lib.ListN.{length, take, drop}
-use Rattle.scope.specs.Limits.{last-day}
-use Rattle.scope.specs.Refusals.{pick, granted, short-output, day-range, no-key}
+use Rattle.scope.specs.Limits.{last-day, most-blocks}
+use Rattle.scope.specs.Refusals.{pick, granted, no-origin, short-output, day-range, no-key}
 use Rattle.words.specs.Bytes.{little, part}
 use Rattle.cipher.specs.Run.{forward}
 use Rattle.cipher.specs.State.{State, run-number, run-state, run-part}
@@ -17,8 +18,11 @@ use Rattle.session.specs.Calls.{data-call, text-call, finish-call}
 use Rattle.layout.specs.Block.{read}
 use Rattle.suspend.specs.Calls.{state-of, suspend-call}
 use Rattle.suspend.specs.Walk.{resume-call}
-use Rattle.claims.specs.Lists.{Bytes, Run, course, after, Source, source-key, source-number, source-iv, come-to, ends}
+use Rattle.search.specs.Search.{Searched, Searched.found, Searched.refused, steps-to, Searches}
+use Rattle.search.specs.Counts.{search}
+use Rattle.claims.specs.Lists.{Bytes, Run, course, after, History, History.in-session, History.in-runs, key-of, iv-of, mode-of, drawn, Source, source-key, source-number, source-iv, come-to, ends}
 use Rattle.claims.specs.Claims.{Keyed}
+use Rattle.claims_search.specs.Claims.{NoLesserCount}
 use Rattle.page.specs.Calls.{seal-number, seal-out, seal-tag}
 use Rattle.page_file.specs.Calls as Files
 use Rattle.page_file.specs.Calls.{Opened, open-out, open-answer}
@@ -38,6 +42,7 @@ use Rattle.tulvekas.specs.Files.{file-open-answer, file-open-writes, file-open-
 use Rattle.tulvekas.specs.Keys.{keys-fetch-answer, keys-fetch-writes}
 use Rattle.tulvekas.specs.Sessions.{data-answer, text-answer, text-writes, finish-answer, finish-writes-tag, finish-writes-iv, suspend-answer, suspend-writes, resume-answer, resume-writes}
 use Rattle.tulvekas.specs.Cipher.{fitting, keystream-answer, keystream-writes, back-named, run-answer, run-writes, state-of-answer, trace-of-bytes, trace-answer, trace-iv, trace-sealed}
+use Rattle.tulvekas.specs.Search.{search-answer, search-count, search-iv, search-sealed, search-steps}
 use Rattle.tulvekas.specs.Dates.{day-reply, kept-reply}
 use Rattle.claims_c.specs.Lists.{left, Buffers, CCall, c-after, below, left-state, c-run, c-course, CSessionCall, c-come-to, session-below}
 
@@ -78,6 +83,40 @@ abbrev pub TracesThroughC : (state key : List ℕ) → Traced → Type 0
 TracesThroughC s key a =
     (iv sb : List ℕ) → 16 ≤ length iv → 1 ≤ length sb
     → Told a iv sb (trace-answer (trace-of-bytes s key) iv sb) (trace-iv (trace-of-bytes s key) iv sb) (trace-sealed (trace-of-bytes s key) iv sb)
+
+-- the four buffers of a search have room for what is found
+pub record Roomy (count iv sealed-byte steps : List ℕ) : Type 0 where
+  pub for-count : 8 ≤ length count
+  pub for-iv : 16 ≤ length iv
+  pub for-mode : 1 ≤ length sealed-byte
+  pub for-steps : 8 ≤ length steps
+
+-- what C is told of an answer to a search, in any four buffers: the number, and what stands in them. Where one has no room for what is found, 4, and all of them
+-- as they were; of the refusals 6 alone writes something, its steps, where these have room.
+abbrev pub ToldSearched : Searched → (count iv sealed-byte steps : List ℕ) → ℕ → (count′ iv′ sealed-byte′ steps′ : List ℕ) → Type 0
+ToldSearched (found c v m k) count iv sb steps n count′ iv′ sb′ steps′ =
+    (Roomy count iv sb steps
+    → (n ≡ 0)
+    × ((count′ ≡ little 8 c ++ drop 8 count)
+    × ((iv′ ≡ v ++ drop 16 iv) × ((sb′ ≡ mode-byte m ∷ drop 1 sb) × (steps′ ≡ little 8 k ++ drop 8 steps)))))
+    × (¬ Roomy count iv sb steps → (n ≡ short-output) × ((count′ ≡ count) × ((iv′ ≡ iv) × ((sb′ ≡ sb) × (steps′ ≡ steps)))))
+ToldSearched (Searched.refused i k) count iv sb steps n count′ iv′ sb′ steps′ =
+    (n ≡ i)
+    × ((count′ ≡ count) × ((iv′ ≡ iv) × ((sb′ ≡ sb) × (steps′ ≡ pick (eqb i no-origin && leb 8 (length steps)) (little 8 k ++ drop 8 steps) steps))))
+
+-- a search through C of this dump tells this
+abbrev pub SearchesThroughC : (dump key : List ℕ) (lowest highest : ℕ) → Searched → Type 0
+SearchesThroughC dump key lowest highest a =
+    (count iv sb steps : List ℕ)
+    → let b = search dump key lowest highest in
+    ToldSearched a count iv sb steps (search-answer b count iv sb steps) (search-count b count iv sb steps) (search-iv b count iv sb steps)
+    (search-sealed b count iv sb steps) (search-steps b count iv sb steps)
+
+-- a search through C, in a range up to 65,538 that holds what a list has drawn and no lesser count of which leads where it ended, tells the list's own count, IV and mode
+abbrev pub FindsThroughC : History → (dump : List ℕ) → Type 0
+FindsThroughC h dump =
+    (lowest highest : ℕ) → lowest ≤ drawn h → drawn h ≤ highest → highest ≤ most-blocks → NoLesserCount h lowest
+    → SearchesThroughC dump (key-of h) lowest highest (found (drawn h) (iv-of h) (mode-of h) (steps-to lowest (drawn h)))
 
 -- bytes b from which every run, either way, answers, writes and leaves what the run below does from the state s
 pub record StandsState (b : List ℕ) (s : State) : Type 0 where
@@ -180,6 +219,17 @@ pub record ThroughC : Type 0 where
   -- and trace from the bytes that a list of runs leaves tells its start's IV and mode.
   pub names-run : (key iv : Bytes) → Keyed key iv → (mode : ℕ) (state : List ℕ) → length state ≡ 120 → (rs : List Run)
       → TracesThroughC (c-course key iv mode state rs) (key .list) (origin (iv .list) (mode-named mode))
+  -- S-8: a search tells, in any four buffers, the answer below, which is what `Searches` says of the dump; and bytes 16 to 127 of the block that suspend wrote, or
+  -- bytes 0 to 111 of the state that a list of runs left, are found at the count of blocks drawn, with the list's IV and mode, in every range up to 65,538 that holds
+  -- that count and no lesser count of which leads there.
+  pub searches : (dump key : Bytes) (lowest highest : ℕ)
+      → let a = search (dump .list) (key .list) lowest highest in
+      Searches (dump .list) (key .list) lowest highest a × SearchesThroughC (dump .list) (key .list) lowest highest a
+  pub finds : (key iv : Bytes) → Keyed key iv → (session : List ℕ) → length session ≡ 240 → (cs : List CCall) (out : Bytes) → 512 ≤ length (out .list)
+      → (dump : Bytes) → dump .list ≡ part 16 112 (suspend-writes (c-after key iv session cs) (out .list))
+      → FindsThroughC (in-session key iv (below cs)) (dump .list)
+  pub finds-run : (key iv : Bytes) → Keyed key iv → (mode : ℕ) (state : List ℕ) → length state ≡ 120 → (rs : List Run) (dump : Bytes)
+      → dump .list ≡ part 0 112 (c-course key iv mode state rs) → FindsThroughC (in-runs key iv (mode-named mode) rs) (dump .list)
   -- Through C every day has its date, and that date the day; `kept_until` writes the last date of keeping; and `kept` writes 1 exactly if the date that
   -- `date` writes for today is on or before the one that `kept_until` writes for the departure.
   pub days : (n : ℕ) → n ≤ last-day → (out number : List ℕ) → 4 ≤ length out → 8 ≤ length number → DayThroughC n out number

@@ -38,7 +38,7 @@ short-output = 4
 abbrev pub bad-tag : ℕ
 bad-tag = 5
 
--- 6 not ours: no IV and mode lead to this state; at resume (document 01: take up), none in sealed mode
+-- 6 not ours: no IV and mode lead to this state; at resume (document 01: take up), none in sealed mode; in a search (document 02), none at any count of the range
 abbrev pub no-origin : ℕ
 no-origin = 6
 
@@ -47,11 +47,11 @@ abbrev pub out-of-phase : ℕ
 out-of-phase = 7
 
 -- 8 torn block: a suspended session's block (document 01: a parked block) breaks a layout rule; document 02: a key store's length or block does, or a
--- number stands in it twice
+-- number stands in it twice; a dump is not 112 bytes
 abbrev pub bad-block : ℕ
 bad-block = 8
 
--- 9 too far: a block count over 65,538, of a state, of a run or of where steps forward would lead
+-- 9 too far: a block count over 65,538, of a state, of a run, of where steps forward would lead, or the highest of a range
 abbrev pub count-too-high : ℕ
 count-too-high = 9
 
@@ -87,3 +87,7 @@ number-taken = 16
 -- 17: a number that is absent from a key store, or erased there, at fetching and erasing
 abbrev pub no-key : ℕ
 no-key = 17
+
+-- 18: a range of counts whose lowest is above its highest
+abbrev pub range-order : ℕ
+range-order = 18

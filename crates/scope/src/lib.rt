@@ -38,6 +38,8 @@ pub const NUMBER_TAKEN: u64 = 16;
 
 pub const NO_KEY: u64 = 17;
 
+pub const RANGE_ORDER: u64 = 18;
+
 // Limits: bytes of data and of text in a session, and blocks drawn.
 pub const MOST_DATA: u64 = 65535;
 

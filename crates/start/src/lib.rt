@@ -1,7 +1,7 @@
 // Start in plain and in sealed mode, and trace: from a state back to the IV and mode that lead to it.
 ghost use mathlib.Core.Path.{_≡_};
 ghost use mathlib.Core.List.{_++_};
-ghost use Prim.Native.Nat.{_+_, _≤_};
+ghost use Prim.Native.Nat.{_+_, _^_, _≤_, _<_};
 ghost use Rattle.words.specs.Bytes.{littles, numbers};
 ghost use Rattle.words.specs.Machine.{bytesOf};
 ghost use Rattle.aes.specs.Unround.{unsub};
@@ -17,7 +17,7 @@ ghost use Rattle.start.specs.Leads.{Traces};
 ghost use Rattle.start.specs.Trace;
 ghost use Rattle.start.specs.Machine.{modeOf, Starts, tracedOf};
 ghost use Rattle.start.specs.Inner;
-ghost use Rattle.start.specs.Inner.{walk-number};
+ghost use Rattle.start.specs.Inner.{walk-number, Walks};
 use cipher::Registers;
 use cipher::State;
 use cipher::lanes;
@@ -245,42 +245,61 @@ fn uninitial(s: Registers, inverse: &[u8; 256]) -> Registers
     cipher::registers_before(into_a(s, z), p)
 }
 
-fn uninitials(s: Registers, n: usize, inverse: &[u8; 256]) -> Registers
-    requires { ⌜ Holds unsub (now inverse) ⌝ }
-    ensures { λ r. ⌜ registersOf r ≡ Trace.uninitials n (registersOf s) ⌝ }
+// Registers that a walk back has come to, and how many steps have been taken in all, a start's undone steps among them: counted where they are taken.
+pub struct Walked {
+    pub registers: Registers,
+    pub steps: u64,
+}
+
+// n of a start's steps undone, counted on likewise.
+fn uninitials(s: Registers, n: u64, walked: u64, inverse: &[u8; 256]) -> Walked
+    requires { ⌜ (walked + n < 2 ^ 64) × Holds unsub (now inverse) ⌝ }
+    ensures { λ r. ⌜ Walks (Trace.uninitials n (registersOf s)) (walked + n) r ⌝ }
 {
     let mut t = s;
+    let mut undone = walked;
     let mut i = n;
     while 0 < i {
         let u = uninitial(t, inverse);
         t = u;
+        undone += 1;
         i -= 1;
     }
-    t
+    Walked {
+        registers: t,
+        steps: undone,
+    }
 }
 
-fn walked_back(s: Registers, n: u64, inverse: &[u8; 256]) -> Registers
-    requires { ⌜ Holds unsub (now inverse) ⌝ }
-    ensures { λ r. ⌜ registersOf r ≡ moves backward n (registersOf s) ⌝ }
+// n steps back, counted on from those walked before.
+pub fn walked_back(s: Registers, n: u64, walked: u64, inverse: &[u8; 256]) -> Walked
+    requires { ⌜ (walked + n < 2 ^ 64) × Holds unsub (now inverse) ⌝ }
+    ensures { λ r. ⌜ Walks (moves backward n (registersOf s)) (walked + n) r ⌝ }
 {
     let mut t = s;
+    let mut steps = walked;
     let mut i: u64 = 0;
     while i < n {
         let w = cipher::backward(t, inverse);
         let u = w.registers;
         t = u;
+        steps += 1;
         i += 1;
     }
-    t
+    Walked {
+        registers: t,
+        steps: steps,
+    }
 }
 
-// What a start under this key would have loaded.
-fn loaded(s: Registers, low: Block, high: Block, inverse: &[u8; 256]) -> Registers
-    requires { ⌜ Holds unsub (now inverse) ⌝ }
-    ensures { λ r. ⌜ registersOf r ≡ Trace.loaded (bytesOf low ++ bytesOf high) (registersOf s) ⌝ }
+// What a start under this key would have loaded: its 16 steps undone.
+pub fn loaded(s: Registers, walked: u64, low: Block, high: Block, inverse: &[u8; 256]) -> Walked
+    requires { ⌜ (walked + 16 < 2 ^ 64) × Holds unsub (now inverse) ⌝ }
+    ensures { λ r. ⌜ Walks (Trace.loaded (bytesOf low ++ bytesOf high) (registersOf s)) (walked + 16) r ⌝ }
 {
-    let t = uninitial(into_r1(s, high), inverse);
-    uninitials(into_r1(t, low), 15, inverse)
+    let w = uninitials(into_r1(s, high), 1, walked, inverse);
+    let t = w.registers;
+    uninitials(into_r1(t, low), 15, w.steps, inverse)
 }
 
 // Whether a start in this mode under this key loads the state, with some IV.
@@ -324,7 +343,8 @@ fn found(iv: Block, mode: Mode) -> Traced
     })
 }
 
-fn unload(s: Registers, low: Block, high: Block) -> Traced
+// The IV and mode that load the registers, both modes tried, or 6.
+pub fn unload(s: Registers, low: Block, high: Block) -> Traced
     ensures { λ r. ⌜ tracedOf r ≡ Trace.unload (bytesOf low ++ bytesOf high) (registersOf s) ⌝ }
 {
     let l = s.lfsr;
@@ -365,8 +385,11 @@ pub fn trace_with(s: State, key: &[u8], inverse: &[u8; 256]) -> Traced
     let low = words::load(key, 0);
     let high = words::load(key, 16);
     let registers = s.registers;
-    let t = walked_back(registers, s.count, inverse);
-    unload(loaded(t, low, high, inverse), low, high)
+    let w = walked_back(registers, s.count, 0, inverse);
+    let t = w.registers;
+    let l = loaded(t, w.steps, low, high, inverse);
+    let u = l.registers;
+    unload(u, low, high)
 }
 
 // Document 01's trace: the IV and mode that lead to a state under a key, at the count that it carries. Refused: 1 for the key's length, 9 for a count

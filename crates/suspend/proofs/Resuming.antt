@@ -146,3 +146,13 @@ module _ (key b : List ℕ) where
       by false p j q = let h = eqb-false (length key) 32 p in subst (Revives key b) (resume-bad-key h) (revives-bad-key h)
       by true p false q = let h = eqb-true (length key) 32 p in subst (Revives key b) (resume-bad-block h q) (revives-bad-block h q)
       by true p true q = found (eqb-true (length key) 32 p) q (trace (state-of (read b)) key) refl
+
+  -- a block that is resumed from obeys the layout rules, and so has 512 bytes
+  pub resumed-laid : resume-call key b .number ≡ 0 → well-laid b ≡ true
+  unfolding resume-call
+  resumed-laid n = go (eqb (length key) 32) refl (well-laid b) refl
+    where
+      go : (i : Bool) → eqb (length key) 32 ≡ i → (j : Bool) → well-laid b ≡ j → well-laid b ≡ true
+      go true p true q = q
+      go true p false q = absurd (let z = rw q at (rw p at n) in omega arith)
+      go false p j q = absurd (let z = rw p at n in omega arith)

@@ -1,6 +1,7 @@
 // The calls of documents 01 and 02 for C: numbers and lent bytes only. A slice is a pointer and a length there. Each call answers 0, or the number of the
-// refusal, which changes no lent byte; bytes behind what is written stay. Nothing is kept between calls but what the caller was handed: a
-// session is 240 lent bytes, a state 120. Rust's rule for references holds for C as well: a buffer that a call writes overlaps no other buffer of that call.
+// refusal, which changes no lent byte, but for 6 of a search, which writes its steps; bytes behind what is written stay. Nothing is kept between calls but what
+// the caller was handed: a session is 240 lent bytes, a state 120. Rust's rule for references holds for C as well: a buffer that a call writes overlaps no other
+// buffer of that call.
 ghost use mathlib.Core.Path.{_≡_};
 ghost use mathlib.Core.List.{List};
 ghost use Prim.Native.Nat.{ℕ};
@@ -18,10 +19,13 @@ ghost use Rattle.tulvekas.specs.Files.{file-open-answer, file-open-write
 ghost use Rattle.tulvekas.specs.Keys.{keys-fetch-answer, keys-fetch-writes};
 ghost use Rattle.tulvekas.specs.Sessions.{begin-answer, begin-leaves, data-answer, data-leaves, text-answer, text-leaves, text-writes, finish-answer, finish-leaves, finish-writes-tag, finish-writes-iv, suspend-answer, suspend-writes, resume-answer, resume-leaves, resume-writes};
 ghost use Rattle.tulvekas.specs.Cipher.{keystream-answer, keystream-writes, start-answer, start-leaves, run-answer, run-leaves, run-writes, state-of-answer, state-of-leaves, trace-of-bytes, trace-answer, trace-iv, trace-sealed};
+ghost use Rattle.search.specs.Counts;
+ghost use Rattle.tulvekas.specs.Search.{search-answer, search-count, search-iv, search-sealed, search-steps};
 ghost use Rattle.tulvekas.specs.Dates.{day-reply, kept-reply};
 use calendar::Numbered;
 use cipher::lanes;
 use retention::Verdict;
+use search::Searched;
 use start::Traced;
 
 // The lengths of what C hands over, under include/tulvekas.h's names.
@@ -32,6 +36,10 @@ const IV_BYTES: usize = 16;
 const TAG_BYTES: usize = 16;
 
 const LENGTH_BYTES: usize = 8;
+
+const COUNT_BYTES: usize = 8;
+
+const STEPS_BYTES: usize = 8;
 
 // ---- whole pages
 
@@ -433,6 +441,60 @@ pub extern "C" fn tulvekas_trace(state: &[u8], key: &[u8], iv: &mut [u8], sealed
             let v = suspend::iv_bytes(o.lo, o.hi);
             bytes_c::put_block(iv, 0, v);
             sealed[0] = bytes_c::mode_number(mode);
+            scope::ACCEPTED
+        }
+    }
+}
+
+// ---- the search for a count that is only roughly known
+
+// The least count from the lowest to the highest at which an IV and mode lead to a dump of 112 bytes: the count, 8 bytes low byte first, the IV, one byte that
+// becomes 0 for plain mode and 1 for sealed, and the steps walked, 8 bytes low byte first. Refused: 1, 8 for a dump that is not 112 bytes, 9, 18, 6, which
+// writes the steps where they have room, 4 for any of the four buffers.
+#[no_mangle]
+pub extern "C" fn tulvekas_search(
+    dump: &[u8],
+    key: &[u8],
+    lowest: u64,
+    highest: u64,
+    count: &mut [u8],
+    iv: &mut [u8],
+    sealed: &mut [u8],
+    steps: &mut [u8],
+) -> u64
+    ensures answer { λ r. ⌜ r ≡ search-answer (Counts.search (now (dump .entry)) (now (key .entry)) lowest highest) (now (count .entry)) (now (iv .entry)) (now (sealed .entry)) (now (steps .entry)) ⌝ }
+    ensures count { λ _. ⌜ now (count .exit) ≡ search-count (Counts.search (now (dump .entry)) (now (key .entry)) lowest highest) (now (count .entry)) (now (iv .entry)) (now (sealed .entry)) (now (steps .entry)) ⌝ }
+    ensures iv { λ _. ⌜ now (iv .exit) ≡ search-iv (Counts.search (now (dump .entry)) (now (key .entry)) lowest highest) (now (count .entry)) (now (iv .entry)) (now (sealed .entry)) (now (steps .entry)) ⌝ }
+    ensures sealed { λ _. ⌜ now (sealed .exit) ≡ search-sealed (Counts.search (now (dump .entry)) (now (key .entry)) lowest highest) (now (count .entry)) (now (iv .entry)) (now (sealed .entry)) (now (steps .entry)) ⌝ }
+    ensures steps { λ _. ⌜ now (steps .exit) ≡ search-steps (Counts.search (now (dump .entry)) (now (key .entry)) lowest highest) (now (count .entry)) (now (iv .entry)) (now (sealed .entry)) (now (steps .entry)) ⌝ }
+{
+    let a = search::search(dump, key, lowest, highest);
+    match a {
+        Searched::Refused(r) => {
+            if r.number == scope::NO_ORIGIN {
+                bytes_c::reply(steps, STEPS_BYTES, r.steps);
+            }
+            r.number
+        }
+        Searched::Found(l) => {
+            if count.len() < COUNT_BYTES {
+                return scope::SHORT_OUTPUT;
+            }
+            if iv.len() < IV_BYTES {
+                return scope::SHORT_OUTPUT;
+            }
+            if sealed.len() < 1 {
+                return scope::SHORT_OUTPUT;
+            }
+            if steps.len() < STEPS_BYTES {
+                return scope::SHORT_OUTPUT;
+            }
+            let mode = l.mode;
+            let v = suspend::iv_bytes(l.lo, l.hi);
+            fields::put(count, 0, COUNT_BYTES, l.count);
+            bytes_c::put_block(iv, 0, v);
+            sealed[0] = bytes_c::mode_number(mode);
+            fields::put(steps, 0, STEPS_BYTES, l.steps);
             scope::ACCEPTED
         }
     }

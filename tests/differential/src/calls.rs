@@ -1,5 +1,5 @@
 //! The calls of include/tulvekas.h on slices: the documents' orders, and what C adds to them. A buffer that must be written and is too
-//! short gives 4 last; a session, block or state of another length than its own gives 8 where it is read.
+//! short gives 4 last; a session, block, state or dump of another length than its own gives 8 where it is read.
 
 use crate::block::Block;
 use crate::calendar::{self, Date};
@@ -9,6 +9,7 @@ use crate::key_store;
 use crate::page;
 use crate::page_file;
 use crate::refusal::{require, Refusal};
+use crate::search;
 use crate::session::Session;
 use crate::suspended;
 use crate::trace;
@@ -23,6 +24,10 @@ pub const LENGTH_BYTES: usize = 8;
 pub const DATE_BYTES: usize = 4;
 /// `TULVEKAS_DAY_BYTES`.
 pub const DAY_BYTES: usize = 8;
+/// `TULVEKAS_COUNT_BYTES`.
+pub const COUNT_BYTES: usize = 8;
+/// `TULVEKAS_STEPS_BYTES`.
+pub const STEPS_BYTES: usize = 8;
 
 type Answer<T> = Result<T, Refusal>;
 
@@ -177,6 +182,38 @@ pub fn trace(state: &[u8], key: &[u8], iv: &mut [u8], sealed: &mut [u8]) -> Answ
     room(sealed.len(), 1)?;
     iv[..16].copy_from_slice(&found);
     sealed[0] = u8::from(mode == Mode::Sealed);
+    Ok(())
+}
+
+/// `tulvekas_search`: 1, 8, 9, 18, 6, 4. The steps of a 6 are written where there is room for them.
+#[allow(clippy::too_many_arguments)]
+pub fn search(
+    dump: &[u8],
+    key: &[u8],
+    lowest: u64,
+    highest: u64,
+    count: &mut [u8],
+    iv: &mut [u8],
+    sealed: &mut [u8],
+    steps: &mut [u8],
+) -> Answer<()> {
+    let found = match search::search(dump, key, lowest, highest) {
+        Ok(found) => found,
+        Err(refused) => {
+            if let (Some(walked), true) = (refused.steps, steps.len() >= STEPS_BYTES) {
+                steps[..STEPS_BYTES].copy_from_slice(&walked.to_le_bytes());
+            }
+            return Err(refused.refusal);
+        }
+    };
+    room(count.len(), COUNT_BYTES)?;
+    room(iv.len(), 16)?;
+    room(sealed.len(), 1)?;
+    room(steps.len(), STEPS_BYTES)?;
+    count[..COUNT_BYTES].copy_from_slice(&found.count.to_le_bytes());
+    iv[..16].copy_from_slice(&found.iv);
+    sealed[0] = u8::from(found.mode == Mode::Sealed);
+    steps[..STEPS_BYTES].copy_from_slice(&found.steps.to_le_bytes());
     Ok(())
 }
 

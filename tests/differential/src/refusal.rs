@@ -14,13 +14,13 @@ pub enum Refusal {
     ShortOutput = 4,
     /// "seal broken": tag differs.
     BadTag = 5,
-    /// "not ours": no IV and mode lead to this state; at resume, none in sealed mode.
+    /// "not ours": no IV and mode lead to this state; at resume, none in sealed mode; of a search, at no count in its range (S-8).
     NoOrigin = 6,
     /// "late entry": call out of phase.
     OutOfPhase = 7,
-    /// "torn block": a suspended block breaks a layout rule; a key store does, or has a number twice (S-6).
+    /// "torn block": a suspended block breaks a layout rule; a key store does, or has a number twice (S-6); a dump is not 112 bytes (S-8).
     BadBlock = 8,
-    /// "too far": block count over 65,538; a step, run or piece of text that would lead past it (S-2).
+    /// "too far": block count over 65,538; a step, run or piece of text that would lead past it (S-2); the highest of a range (S-8).
     CountTooHigh = 9,
     /// "cut seal": tag not 16 bytes.
     TagLength = 10,
@@ -38,6 +38,8 @@ pub enum Refusal {
     NumberTaken = 16,
     /// A number that the key store has not, or has erased, is to be fetched or erased (S-6).
     NoKey = 17,
+    /// A range whose lowest count is above its highest (S-8).
+    RangeOrder = 18,
 }
 
 /// What a call answers: 0 if accepted, else the number of the refusal.

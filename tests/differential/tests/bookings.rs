@@ -1,4 +1,4 @@
-//! The reference alone against document 01's trial bookings, document 02's page file, counts, dates, keeping and key store, and both directions of
+//! The reference alone against document 01's trial bookings, document 02's page file, counts, dates, keeping, key store and search, and both directions of
 //! the cipher against each other.
 
 use reference::block::plus;
@@ -7,7 +7,7 @@ use reference::cipher::{run, Direction, Key, Mode, Registers, State, MOST_BLOCKS
 use reference::lfsr::{alpha, alpha_inverse, beta, beta_inverse, clock, clock_back};
 use reference::refusal::Refusal;
 use reference::session::Session;
-use reference::{aes, ghash, keeping, key_store, page, page_file, suspended, trace};
+use reference::{aes, ghash, keeping, key_store, page, page_file, search, suspended, trace};
 
 const ZERO: Registers = Registers { a: [0; 16], b: [0; 16], r1: [0; 16], r2: [0; 16], r3: [0; 16] };
 
@@ -200,6 +200,56 @@ fn counts_of_sessions() {
         block[508] ^= 1;
         assert_eq!(suspended::state_of(&block), Err(Refusal::BadBlock));
     }
+}
+
+/// S-8 by traces, count by count: the first that finds an origin is the answer. Walked are the steps to the lowest count, one more to each further
+/// count, and 16 at each.
+fn by_traces(state: &State, key: &[u8], lowest: u64, highest: u64) -> Result<search::Found, search::Refused> {
+    let mut steps = lowest;
+    for count in lowest..=highest {
+        steps += if count == lowest { 16 } else { 17 };
+        if let Ok((iv, mode)) = trace::trace(&State { count, ..state.clone() }, key) {
+            return Ok(search::Found { count, iv, mode, steps });
+        }
+    }
+    Err(search::Refused { refusal: Refusal::NoOrigin, steps: Some(steps) })
+}
+
+#[test]
+fn searches() {
+    for mode in [Mode::Plain, Mode::Sealed] {
+        for at in [0, 1, 2, 9] {
+            let mut state = State::start(&Key::new(&[7; 32]).unwrap(), &[9; 16], mode);
+            run(&mut state, at, Direction::Forward, &mut [0; 16 * 9]).unwrap();
+            let dump = state.registers.to_bytes();
+            for (lowest, highest) in (0..12).flat_map(|lowest| (lowest..12).map(move |highest| (lowest, highest))) {
+                for key in [[7; 32], [8; 32]] {
+                    let found = search::search(&dump, &key, lowest, highest);
+                    assert_eq!(found, by_traces(&state, &key, lowest, highest), "{at} in {lowest} to {highest}");
+                    assert_eq!(found.is_ok(), key == [7; 32] && (lowest..=highest).contains(&at));
+                }
+            }
+        }
+    }
+}
+
+/// S-8's refusals in their order, and that only 6 carries steps.
+#[test]
+fn refused_searches() {
+    let (key, dump) = ([7; 32], [0; 112]);
+    let refused = |dump: &[u8], key: &[u8], lowest, highest| {
+        let refused = search::search(dump, key, lowest, highest).unwrap_err();
+        (refused.refusal as u64, refused.steps)
+    };
+    assert_eq!(refused(&dump[1..], &key[1..], 65_540, 65_539), (1, None));
+    assert_eq!(refused(&dump[1..], &key, 65_540, 65_539), (8, None));
+    assert_eq!(refused(&dump, &key, 65_540, 65_539), (9, None));
+    assert_eq!(refused(&dump, &key, 0, u64::MAX), (9, None));
+    assert_eq!(refused(&dump, &key, 65_539, 65_538), (18, None));
+    assert_eq!(refused(&dump, &key, u64::MAX, 0), (18, None));
+    assert_eq!(refused(&dump, &key, 0, 0), (6, Some(16)));
+    assert_eq!(refused(&dump, &key, 3, 5), (6, Some(5 + 48)));
+    assert_eq!(refused(&dump, &key, 65_538, 65_538), (6, Some(65_554)));
 }
 
 /// S-4's dates: where the days begin and end, leap years, and dates that are lacking.

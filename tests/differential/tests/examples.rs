@@ -2,15 +2,15 @@
 
 use reference::block::Block;
 use reference::calendar::{self, Date};
-use reference::cipher::{run, Direction, Key, Mode, State};
+use reference::cipher::{run, Direction, Key, Mode, Registers, State};
 use reference::refusal::Refusal;
 use reference::session::Session;
-use reference::{keeping, key_store, page, page_file, suspended, trace};
+use reference::{keeping, key_store, page, page_file, search, suspended, trace};
 use std::path::Path;
 use std::process::Command;
 
 /// examples/run seals, suspends, resumes and opens a page in each language, seals and opens pages of a file and says until when they are kept,
-/// walks and traces states, and stores, fetches and erases keys.
+/// walks and traces states, stores, fetches and erases keys, and searches a dump.
 #[test]
 fn examples() {
     let script = Path::new(env!("CARGO_MANIFEST_DIR")).join("../../examples/run");
@@ -104,6 +104,42 @@ fn output_of_the_states() {
     printed += &format!("count: {}\ntrace: {}\n", state.count, refused(trace::trace(&state, &key).unwrap_err()));
     printed += &format!("no block back: {}\n", refused(run(&mut state, 0, Direction::Back, &mut []).unwrap_err()));
     assert_eq!(include_str!("../../../examples/states.stdout"), printed);
+}
+
+/// What the examples of a dump must print is what the reference gives.
+#[test]
+fn output_of_the_dump() {
+    let (key, iv) = (key(), 0x0123456789abcdeffedcba9876543210_u128.to_be_bytes());
+    let (mut session, mut block) = (Session::begin(&key, &iv).unwrap(), [0; 512]);
+    let text = b"Mari Saar; pitch 12; two nights; tax 4.00";
+    let mut cipher = [0; 41];
+    session.text(text, &mut cipher).unwrap();
+    suspended::suspend(&session, &mut block).unwrap();
+    let dump: [u8; 112] = block[16..128].try_into().unwrap();
+    let (lowest, highest) = (2, 2 + page_file::MOST_PAGE_TEXT.div_ceil(16) as u64);
+
+    let origin = |iv: Block, mode: Mode| format!("IV: {}\nmode: {}\n", hex(&iv), if mode == Mode::Sealed { "sealed" } else { "plain" });
+    let found = search::search(&dump, &key, lowest, highest).unwrap();
+    let mut printed = format!("count: {}\n{}steps: {}\n", found.count, origin(found.iv, found.mode), found.steps);
+    let mut state = State { registers: Registers::from_bytes(&dump), count: found.count };
+    let (traced, mode) = trace::trace(&state, &key).unwrap();
+    printed += &format!("traced:\n{}", origin(traced, mode));
+    let mut stream = vec![0; 16 * found.count as usize];
+    run(&mut state, found.count, Direction::Back, &mut stream).unwrap();
+    let keystream: Vec<u8> = stream.chunks(16).rev().skip(2).flatten().copied().collect();
+    let read: Vec<u8> = cipher.iter().zip(keystream).map(|(byte, key)| byte ^ key).collect();
+    printed += &format!("text: {}\ncount: {}\n", String::from_utf8(read).unwrap(), state.count);
+
+    let mut other = key;
+    other[0] ^= 1;
+    for (what, key, lowest) in [("counts from 6 on", &key, 6), ("under another key", &other, lowest)] {
+        let refused = search::search(&dump, key, lowest, highest).unwrap_err();
+        printed += &format!("{what}: refused {}\nsteps: {}\n", refused.refusal as u64, refused.steps.unwrap());
+    }
+    let refused = search::search(&dump, &key, highest, lowest).unwrap_err();
+    assert_eq!(refused.steps, None);
+    printed += &format!("from the highest to the lowest: refused {}\n", refused.refusal as u64);
+    assert_eq!(include_str!("../../../examples/dump.stdout"), printed);
 }
 
 /// What the examples of a key store must print is what the reference gives.

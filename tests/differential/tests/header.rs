@@ -3,16 +3,17 @@
 
 use reference::calendar::{date, Date};
 use reference::refusal::Refusal;
-use reference::{calendar, calls, cipher, keeping, key_store, page, page_file, suspended};
+use reference::{calendar, calls, cipher, keeping, key_store, page, page_file, search, suspended};
 use std::collections::BTreeMap;
 
 const HEADER: &str = include_str!("../../../include/tulvekas.h");
 const DECLARATIONS: &str = include_str!("differential/library.rs");
-const EXAMPLES: [&str; 4] = [
+const EXAMPLES: [&str; 5] = [
     include_str!("../../../examples/seal_by_pieces.c"),
     include_str!("../../../examples/page_file.c"),
     include_str!("../../../examples/states.c"),
     include_str!("../../../examples/keys.c"),
+    include_str!("../../../examples/dump.c"),
 ];
 
 /// Each call with its parameters as Rust writes them.
@@ -54,7 +55,7 @@ fn from_c(text: &str) -> String {
 fn calls_are_declared_as_in_the_header() {
     let header = calls_of(&code(HEADER), "uint64_t tulvekas_", from_c);
     let declared = calls_of(DECLARATIONS, "pub fn tulvekas_", str::to_string);
-    assert_eq!(header.len(), 22);
+    assert_eq!(header.len(), 23);
     assert_eq!(declared, header);
 }
 
@@ -75,6 +76,9 @@ fn numbers_are_those_of_the_header() {
         ("SESSION_BYTES", calls::SESSION_BYTES as u64),
         ("SUSPENDED_BYTES", suspended::SUSPENDED_BYTES as u64),
         ("STATE_BYTES", calls::STATE_BYTES as u64),
+        ("DUMP_BYTES", search::DUMP_BYTES as u64),
+        ("COUNT_BYTES", calls::COUNT_BYTES as u64),
+        ("STEPS_BYTES", calls::STEPS_BYTES as u64),
         ("PAGE_BYTES", page_file::PAGE_BYTES as u64),
         ("STAY_BYTES", page_file::STAY_BYTES as u64),
         ("LENGTH_BYTES", calls::LENGTH_BYTES as u64),
@@ -107,6 +111,7 @@ fn numbers_are_those_of_the_header() {
         ("BEFORE_START", Refusal::BeforeStart as u64),
         ("NUMBER_TAKEN", Refusal::NumberTaken as u64),
         ("NO_KEY", Refusal::NoKey as u64),
+        ("RANGE_ORDER", Refusal::RangeOrder as u64),
     ]);
     assert_eq!(defined, expected);
 }
@@ -122,10 +127,18 @@ fn shown_calls_are_those_of_the_examples() {
     let examples = EXAMPLES.map(words);
     let indented = HEADER.lines().filter_map(|line| line.strip_prefix(" *     "));
     let shown: Vec<_> = indented.filter(|line| line.starts_with("tulvekas_") && line.ends_with(')')).collect();
-    assert_eq!(shown.len(), 22);
+    assert_eq!(shown.len(), 24);
     for call in shown {
         assert!(examples.iter().any(|example| example.contains(call)), "{call}");
     }
+}
+
+/// The steps that the header names for a search of all counts.
+#[test]
+fn steps_are_those_of_the_search() {
+    let most = cipher::MOST_BLOCKS;
+    assert!(words(HEADER).contains("All counts from 0 to 65,538 take 1,114,162 steps."));
+    assert_eq!((most, search::steps(0, most)), (65_538, 1_114_162));
 }
 
 /// A date in words.

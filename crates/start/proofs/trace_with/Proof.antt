@@ -34,15 +34,21 @@ returns c =
 in-order : (c : tie.Else1) → let a = c .before .before .before .args in (length (now (a .key)) ≡ 32) × (a .s .count ≤ most-blocks)
 in-order c = let a = c .before .before .before .args in walkable (now (a .key)) (a .s .count) (sym (c .before .walk-number .ensures) ∙ c .if1 .left)
 
+-- the walk takes count and 16 steps at most
+few : (c : tie.After-registers) → let a = c .before .before .before .before .before .before .args in a .s .count ≤ most-blocks
+few c = in-order (c .before .before .before) .1
+
 returns-2 : tie.Need-returns-2
 returns-2 c =
-    let x = c .before .before .before .before .before .before in
+    let l = c .before .before in
+    let w = l .before .before in
+    let x = w .before .before .before .before in
     let entry = x .before .before in
     let a = entry .before .args in
     let lk = in-order x .0 in
-    let k = key-whole (now (a .key)) _ _ lk (c .before .before .before .before .before .load .ensures) (c .before .before .before .before .load2 .ensures) in
+    let k = key-whole (now (a .key)) _ _ lk (w .before .before .before .load .ensures) (w .before .before .load2 .ensures) in
     both entry
-    (c .unload .ensures ∙ ap₂ unload k (c .before .loaded .ensures ∙ ap₂ loaded k (c .before .before .walked-back .ensures))
+    (c .unload .ensures ∙ ap₂ unload k (l .loaded .ensures .registers ∙ ap₂ loaded k (w .walked-back .ensures .registers))
     ∙ trace-walks (stateOf (a .s)) (now (a .key)) lk (in-order x .1))
 
 pub trace-with-spec : {M : Type 1} → statement M
@@ -53,7 +59,7 @@ trace-with-spec =
     returns
     (λ c κs. omega (arith, in-order c .0))
     (λ c κs. omega (arith, in-order (c .before) .0))
-    (λ c κs. search needs)
-    (λ c κs. search needs)
+    (λ c κs. (omega (arith, few c), c .before .before .before .before .before .before .pre))
+    (λ c κs. (omega (arith, few (c .before .before), c .before .walked-back .ensures .steps), c .before .before .before .before .before .before .before .before .pre))
     (λ c κs. search needs)
     returns-2)

@@ -74,6 +74,22 @@ extern "C" {
         sealed: *mut u8,
         sealed_len: usize,
     ) -> u64;
+    pub fn tulvekas_search(
+        dump: *const u8,
+        dump_len: usize,
+        key: *const u8,
+        key_len: usize,
+        lowest: u64,
+        highest: u64,
+        count: *mut u8,
+        count_len: usize,
+        iv: *mut u8,
+        iv_len: usize,
+        sealed: *mut u8,
+        sealed_len: usize,
+        steps: *mut u8,
+        steps_len: usize,
+    ) -> u64;
     pub fn tulvekas_state_of(block: *const u8, block_len: usize, state: *mut u8, state_len: usize) -> u64;
     pub fn tulvekas_date(day: u64, date: *mut u8, date_len: usize) -> u64;
     pub fn tulvekas_day(year: u64, month: u64, day: u64, number: *mut u8, number_len: usize) -> u64;

@@ -1,9 +1,10 @@
 //! Every combination of what a call refuses: the first in its order is the answer.
 
 use crate::arbitrary::COUNT_AT;
-use crate::tester::{FileOpen, FileSeal, Session, Tester, SESSION_BYTES, STATE_BYTES};
+use crate::tester::{FileOpen, FileSeal, Search, Session, Tester, SESSION_BYTES, STATE_BYTES};
 use reference::calendar::Date;
 use reference::cipher::{Key, Mode, Registers};
+use reference::search::DUMP_BYTES;
 use reference::suspended::check;
 use reference::{key_store, page};
 
@@ -20,6 +21,8 @@ const ROOMS_16: [usize; 4] = [16, 0, 15, 21];
 const ROOMS_120: [usize; 6] = [STATE_BYTES, 0, 112, STATE_BYTES - 1, STATE_BYTES + 1, 300];
 /// States that are read.
 const STATE_LENGTHS: [usize; 5] = [STATE_BYTES, 0, 112, STATE_BYTES - 1, STATE_BYTES + 1];
+/// Dumps that are read.
+const DUMP_LENGTHS: [usize; 6] = [DUMP_BYTES, 0, DUMP_BYTES - 1, DUMP_BYTES + 1, STATE_BYTES, 512];
 const SESSION_LENGTHS: [usize; 4] = [SESSION_BYTES, 0, SESSION_BYTES - 1, SESSION_BYTES + 1];
 
 /// Outputs for `len` bytes: exact, empty, one too short, longer.
@@ -100,6 +103,9 @@ fn order_of_open() {
     t.done();
 }
 
+/// A search of two counts, with room for all that it writes.
+const SOON: Search = Search { lowest: 0, highest: 1, count_len: 8, iv_len: 16, sealed_len: 1, steps_len: 8 };
+
 /// Lengths of keys, IVs and tags over a wider range.
 #[test]
 fn lengths_of_fixed_buffers() {
@@ -108,6 +114,7 @@ fn lengths_of_fixed_buffers() {
         let bytes = t.random.bytes(len);
         let (key, iv, text) = (t.random.array::<32>(), t.random.array::<16>(), t.random.bytes(23));
         let (key_answer, iv_answer) = (if len == 32 { 0 } else { 1 }, if len == 16 { 0 } else { 2 });
+        let (started, foreign) = (Registers::start(&Key::new(&key).unwrap(), &iv, Mode::Plain).to_bytes(), t.random.array::<DUMP_BYTES>());
         let answers = [
             (t.seal(&bytes, &iv, &[], &text, 23, 16).0, key_answer),
             (t.seal(&key, &bytes, &[], &text, 23, 16).0, iv_answer),
@@ -128,6 +135,13 @@ fn lengths_of_fixed_buffers() {
             (t.trace(&bytes, &key).0, if len == STATE_BYTES { 9 } else { 8 }),
             (t.trace(&[0; STATE_BYTES], &bytes).0, if len == 32 { 6 } else { 1 }),
             (t.state_of(&bytes).0, 8),
+            (t.search_in(&bytes, &key, &SOON).0, if len == DUMP_BYTES { 6 } else { 8 }),
+            (t.search_in(&[0; DUMP_BYTES], &bytes, &SOON).0, if len == 32 { 6 } else { 1 }),
+            (t.search_in(&started, &key, &Search { count_len: len, ..SOON }).0, if len < 8 { 4 } else { 0 }),
+            (t.search_in(&started, &key, &Search { iv_len: len, ..SOON }).0, if len < 16 { 4 } else { 0 }),
+            (t.search_in(&started, &key, &Search { sealed_len: len, ..SOON }).0, if len < 1 { 4 } else { 0 }),
+            (t.search_in(&started, &key, &Search { steps_len: len, ..SOON }).0, if len < 8 { 4 } else { 0 }),
+            (t.search_in(&foreign, &key, &Search { steps_len: len, ..SOON }).0, 6),
         ];
         for (answer, expected) in answers {
             t.expect("a call with a buffer of another length", answer, expected);
@@ -474,6 +488,95 @@ fn order_of_trace_at_the_highest_counts() {
         for (iv_len, sealed_len) in [(16, 1), (0, 0)] {
             let answer = t.trace_in(&state_at(&registers, count, STATE_BYTES), &key, iv_len, sealed_len).0;
             t.expect("trace", answer, expected);
+        }
+    }
+    t.done();
+}
+
+/// Ranges about a count of 5: those in which it is found, those in which it is not, and those that are none.
+const RANGES: [(u64, u64); 18] = [
+    (0, 10),
+    (3, 5),
+    (5, 5),
+    (5, 9),
+    (0, 4),
+    (6, 10),
+    (6, 5),
+    (65_538, 0),
+    (5, 65_539),
+    (5, 1 << 32 | 9),
+    (5, u64::MAX),
+    (u64::MAX, u64::MAX),
+    (1 << 32 | 5, 5),
+    (1 << 32 | 5, 1 << 32 | 9),
+    (1 << 63, 9),
+    (u64::MAX, 65_538),
+    (65_540, 65_539),
+    (u64::MAX, u64::MAX - 1),
+];
+
+#[test]
+fn order_of_search() {
+    let mut t = Tester::new("order of search");
+    let (key, iv) = (t.random.array::<32>(), t.random.array::<16>());
+    for mode in [Mode::Plain, Mode::Sealed] {
+        let mut registers = Registers::start(&Key::new(&key).unwrap(), &iv, mode);
+        for _ in 0..5 {
+            registers.step();
+        }
+        let ours = registers.to_bytes();
+        let mut foreign = ours;
+        foreign[77] ^= 0x40;
+        for (key_len, dump_len) in KEY_LENGTHS.into_iter().flat_map(|key_len| DUMP_LENGTHS.map(|dump_len| (key_len, dump_len))) {
+            for (lowest, highest) in RANGES {
+                for registers in [ours, foreign] {
+                    let key = &[&key[..], &[0]].concat()[..key_len];
+                    let dump = &[&registers[..], &[0; 400]].concat()[..dump_len];
+                    of_each_room(&mut t, dump, key, (lowest, highest), registers == ours && (lowest..=highest).contains(&5));
+                }
+            }
+        }
+    }
+    t.done();
+}
+
+/// A search in a range with every combination of buffers, and what it writes where it is refused: the steps of a 6, and else nothing.
+fn of_each_room(t: &mut Tester, dump: &[u8], key: &[u8], (lowest, highest): (u64, u64), fits: bool) {
+    for (count_len, iv_len) in rooms(8).into_iter().flat_map(|count_len| ROOMS_16.map(|iv_len| (count_len, iv_len))) {
+        for (sealed_len, steps_len) in [1, 0, 2].into_iter().flat_map(|sealed_len| rooms(8).map(|steps_len| (sealed_len, steps_len))) {
+            if !t.chosen() {
+                continue;
+            }
+            let given = Search { lowest, highest, count_len, iv_len, sealed_len, steps_len };
+            let (answer, left) = t.search_in(dump, key, &given);
+            let expected = first(&[
+                (key.len() != 32, 1),
+                (dump.len() != DUMP_BYTES, 8),
+                (highest > 65_538, 9),
+                (lowest > highest, 18),
+                (!fits, 6),
+                (count_len < 8 || iv_len < 16 || sealed_len < 1 || steps_len < 8, 4),
+            ]);
+            t.expect("search", answer, expected);
+            if answer == 6 && steps_len >= 8 && left[3][..8] != (highest + 16 * (highest - lowest + 1)).to_le_bytes() {
+                t.fail("search", "both write other steps than those of the whole range".into());
+            }
+        }
+    }
+}
+
+/// Searches at the last counts, with and without room for their steps.
+#[test]
+fn order_of_search_at_the_highest_counts() {
+    let mut t = Tester::new("order of search at the highest counts");
+    let (key, dump) = (t.random.array::<32>(), t.random.array::<DUMP_BYTES>());
+    for (lowest, highest, expected) in
+        [(65_530, 65_537, 6), (65_538, 65_538, 6), (65_538, 65_539, 9), (65_539, 65_538, 18), (65_539, 65_539, 9)]
+    {
+        for (count_len, iv_len, sealed_len, steps_len) in [(8, 16, 1, 8), (0, 0, 0, 0), (0, 0, 0, 8), (8, 16, 1, 7)] {
+            let given = Search { lowest, highest, count_len, iv_len, sealed_len, steps_len };
+            let answer = t.search_in(&dump, &key, &given).0;
+            t.expect("search", answer, expected);
         }
     }
     t.done();

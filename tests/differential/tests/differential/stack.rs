@@ -5,6 +5,7 @@
 use crate::library::*;
 use crate::random::Random;
 use crate::tester::{SESSION_BYTES, STATE_BYTES};
+use reference::cipher::{Key, Mode, State};
 use reference::key_store;
 use std::ffi::c_void;
 use std::ptr::null_mut;
@@ -145,6 +146,22 @@ fn of_a_store(random: &mut Random, blocks: usize, held: bool) -> Vec<(&'static s
     taken
 }
 
+/// The stack of a search from a count on that finds a later one.
+fn of_a_range(random: &mut Random, lowest: u64, found: u64) -> Vec<(&'static str, usize)> {
+    let (key, iv) = (random.array::<32>(), random.array::<16>());
+    let mut state = State::start(&Key::new(&key).unwrap(), &iv, Mode::Sealed);
+    while state.count < found {
+        state.step().unwrap();
+    }
+    let (dump, mut count, mut found, mut sealed, mut steps) = (state.registers.to_bytes(), [0; 8], [0; 16], [0], [0; 8]);
+    let (d, k, c, f) = (dump.as_ptr(), key.as_ptr(), count.as_mut_ptr(), found.as_mut_ptr());
+    let (y, s) = (sealed.as_mut_ptr(), steps.as_mut_ptr());
+    let mut taken = Vec::new();
+    let search = || unsafe { tulvekas_search(d, 112, k, 32, lowest, 65_538, c, 8, f, 16, y, 1, s, 8) };
+    take(&mut taken, "search", &search);
+    taken
+}
+
 #[test]
 fn stack_of_each_call() {
     let mut random = Random::new(20_000_101);
@@ -158,6 +175,9 @@ fn stack_of_each_call() {
     }
     for (blocks, held) in [(1, false), (2, true), (6, false), (6, true), (100, true), (1_000, true)] {
         taken.extend(of_a_store(&mut random, blocks, held));
+    }
+    for (lowest, found) in [(0, 0), (0, 1), (16, 16), (10, 100), (0, 5_000), (65_530, 65_538)] {
+        taken.extend(of_a_range(&mut random, lowest, found));
     }
     for (call, bytes) in taken {
         assert!(bytes <= MOST, "{call} takes {bytes} bytes of stack");

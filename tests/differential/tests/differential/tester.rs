@@ -1,5 +1,6 @@
 //! Each call of the header, made to the library and to the reference with the same bytes, and everything that both leave compared:
-//! the answer, each lent byte, the bytes behind what is written, the canaries, and on a refusal that nothing has changed.
+//! the answer, each lent byte, the bytes behind what is written, the canaries, and on a refusal that nothing has changed, but for the steps of a
+//! search that finds nothing.
 
 use crate::lent::Lent;
 use crate::library::*;
@@ -18,7 +19,10 @@ pub type Session = [u8; SESSION_BYTES];
 /// What a lent buffer must hold after a call.
 enum Left<'a> {
     Unchanged,
+    /// Where the call is accepted; where it is refused, what it held.
     Bytes(&'a [u8]),
+    /// Even where it is refused.
+    Anyway(&'a [u8]),
 }
 
 /// What a seal into a page file is given beside the file.
@@ -40,6 +44,26 @@ pub struct FileOpen<'a> {
     pub page: u32,
     pub out_len: usize,
     pub length_len: usize,
+}
+
+/// What a search is given beside the dump and the key: the range, and buffers of these lengths.
+#[derive(Clone, Copy)]
+pub struct Search {
+    pub lowest: u64,
+    pub highest: u64,
+    pub count_len: usize,
+    pub iv_len: usize,
+    pub sealed_len: usize,
+    pub steps_len: usize,
+}
+
+/// What a search found.
+#[derive(Debug, PartialEq, Eq)]
+pub struct Located {
+    pub count: u64,
+    pub iv: Vec<u8>,
+    pub sealed: u8,
+    pub steps: u64,
 }
 
 pub struct Tester {
@@ -159,6 +183,7 @@ impl Tester {
             }
             let (contents, before) = (lent.contents(), lent.lent());
             let wrong = match left {
+                Left::Anyway(bytes) => (contents != *bytes).then_some(*bytes),
                 _ if expected != 0 => (contents != before).then_some(before),
                 Left::Unchanged => (contents != before).then_some(before),
                 Left::Bytes(bytes) => (contents != *bytes).then_some(*bytes),
@@ -462,6 +487,81 @@ impl Tester {
         self.expect("trace", answer, 0);
         if found_iv[..16] != *iv || found_sealed[0] != sealed {
             self.fail("trace", "both find another IV or mode than the state was reached from".into());
+        }
+    }
+
+    /// Gives what is left of the buffers for count, IV, mode and steps beside the answer.
+    pub fn search_in(&mut self, dump: &[u8], key: &[u8], given: &Search) -> (u64, [Vec<u8>; 4]) {
+        let Search { lowest, highest, .. } = *given;
+        let (dump, key) = (self.lend("dump", dump), self.lend("key", key));
+        let (mut count, mut iv) = (self.lend_output("count", given.count_len), self.lend_output("iv", given.iv_len));
+        let (mut sealed, mut steps) = (self.lend_output("sealed", given.sealed_len), self.lend_output("steps", given.steps_len));
+        let [mut our_count, mut our_iv, mut our_sealed, mut our_steps] = [&count, &iv, &sealed, &steps].map(|lent| lent.lent().to_vec());
+        let expected =
+            number(&calls::search(dump.lent(), key.lent(), lowest, highest, &mut our_count, &mut our_iv, &mut our_sealed, &mut our_steps));
+        let found = unsafe {
+            tulvekas_search(
+                dump.read(),
+                dump.len(),
+                key.read(),
+                key.len(),
+                lowest,
+                highest,
+                count.written(),
+                count.len(),
+                iv.written(),
+                iv.len(),
+                sealed.written(),
+                sealed.len(),
+                steps.written(),
+                steps.len(),
+            )
+        };
+        self.compare(
+            &format!("search from {lowest} to {highest}"),
+            found,
+            expected,
+            &[
+                (&dump, Left::Unchanged),
+                (&key, Left::Unchanged),
+                (&count, Left::Bytes(&our_count)),
+                (&iv, Left::Bytes(&our_iv)),
+                (&sealed, Left::Bytes(&our_sealed)),
+                (&steps, if expected == 6 { Left::Anyway(&our_steps) } else { Left::Bytes(&our_steps) }),
+            ],
+        );
+        (found, [our_count, our_iv, our_sealed, our_steps])
+    }
+
+    /// What a search in a range finds, or the number of the refusal and what its buffer for the steps begins with.
+    pub fn search(&mut self, dump: &[u8], key: &[u8], lowest: u64, highest: u64) -> Result<Located, (u64, u64)> {
+        let spare = if self.random.one_in(2) { [0; 4] } else { [0; 4].map(|_| self.random.below(40)) };
+        let [count_len, iv_len, sealed_len, steps_len] = [8 + spare[0], 16 + spare[1], 1 + spare[2], 8 + spare[3]];
+        let given = Search { lowest, highest, count_len, iv_len, sealed_len, steps_len };
+        let (answer, [count, iv, sealed, steps]) = self.search_in(dump, key, &given);
+        let first = |bytes: &[u8]| u64::from_le_bytes(bytes[..8].try_into().unwrap());
+        if answer == 0 {
+            Ok(Located { count: first(&count), iv: iv[..16].to_vec(), sealed: sealed[0], steps: first(&steps) })
+        } else {
+            Err((answer, first(&steps)))
+        }
+    }
+
+    /// Requires that a search finds this count, IV and mode, after the steps that document 02 names.
+    pub fn searched_to(&mut self, dump: &[u8], key: &[u8], range: (u64, u64), count: u64, iv: &[u8], sealed: u8) {
+        let steps = count + 16 * (count - range.0 + 1);
+        let located = self.search(dump, key, range.0, range.1);
+        if located != Ok(Located { count, iv: iv.to_vec(), sealed, steps }) {
+            self.fail("search", format!("from {} to {} both give {located:?}, the test expects count {count}", range.0, range.1));
+        }
+    }
+
+    /// Requires that a search finds nothing, after the steps of the whole range.
+    pub fn searched_in_vain(&mut self, dump: &[u8], key: &[u8], range: (u64, u64)) {
+        let steps = range.1 + 16 * (range.1 - range.0 + 1);
+        let located = self.search(dump, key, range.0, range.1);
+        if located != Err((6, steps)) {
+            self.fail("search", format!("from {} to {} both give {located:?}, the test expects 6", range.0, range.1));
         }
     }
 

@@ -118,6 +118,7 @@ fn lengths_over_32_bits() {
     refused_pieces(&mut t, zeros, w, &key, &iv);
     page_files(&mut t, zeros, &mut written, &key);
     key_stores(&mut t, zeros, &mut written, &key, &iv);
+    searches(&mut t, zeros, &mut written, &key, &iv);
     t.done();
 }
 
@@ -278,5 +279,40 @@ fn key_stores(t: &mut Tester, zeros: *const u8, written: &mut Zeros, key: &[u8],
     answered(t, "keys_store", unsafe { tulvekas_keys_store(k, 32, v, 16, y, 32, w, WIDE + 512) }, 0);
     if written.take_front(t, "keys_store", 512) != store {
         t.fail("keys_store", "another block than expected".into());
+    }
+}
+
+/// Keys, dumps and outputs of more than 2^32 bytes, and counts over 2^32.
+fn searches(t: &mut Tester, zeros: *const u8, written: &mut Zeros, key: &[u8], iv: &[u8]) {
+    let mut state = t.start(key, iv, 1);
+    t.run(&mut state, 6, 0);
+    let (d, k, w, wide) = (state.as_ptr(), key.as_ptr(), written.0, WIDE as u64);
+    let mut other = [0; 64];
+    let [c, f, y, s] = [0, 16, 32, 48].map(|at| unsafe { other.as_mut_ptr().add(at) });
+    unsafe {
+        answered(t, "search", tulvekas_search(d, 112, zeros, WIDE + 32, 0, 9, w, 8, f, 16, y, 1, s, 8), 1);
+        answered(t, "search", tulvekas_search(zeros, WIDE + 112, k, 32, 0, 9, w, 8, f, 16, y, 1, s, 8), 8);
+        answered(t, "search", tulvekas_search(d, 112, k, 32, 0, wide, w, 8, f, 16, y, 1, s, 8), 9);
+        answered(t, "search", tulvekas_search(d, 112, k, 32, 0, wide + 9, w, 8, f, 16, y, 1, s, 8), 9);
+        answered(t, "search", tulvekas_search(d, 112, k, 32, wide + 6, 9, w, 8, f, 16, y, 1, s, 8), 18);
+    }
+    written.take_front(t, "a refused call", 0);
+    if other != [0; 64] {
+        t.fail("a refused call", "a lent byte has changed".into());
+    }
+    // 6 + 16 times 7, and 9 + 16 times 3 where 7 to 9 are searched.
+    let (count, walked, in_vain) = (6_u64.to_le_bytes(), 118_u64.to_le_bytes(), 57_u64.to_le_bytes());
+    let mut check = |answer: u64, expected: u64, bytes: &[u8]| {
+        answered(t, "search", answer, expected);
+        if written.take_front(t, "search", bytes.len()) != bytes {
+            t.fail("search", "another output than expected".into());
+        }
+    };
+    unsafe {
+        check(tulvekas_search(d, 112, k, 32, 0, 9, w, WIDE + 3, f, 16, y, 1, s, 8), 0, &count);
+        check(tulvekas_search(d, 112, k, 32, 0, 9, c, 8, w, WIDE + 3, y, 1, s, 8), 0, iv);
+        check(tulvekas_search(d, 112, k, 32, 0, 9, c, 8, f, 16, w, WIDE, s, 8), 0, &[1]);
+        check(tulvekas_search(d, 112, k, 32, 0, 9, c, 8, f, 16, y, 1, w, WIDE + 3), 0, &walked);
+        check(tulvekas_search(d, 112, k, 32, 7, 9, c, 8, f, 16, y, 1, w, WIDE + 3), 6, &in_vain);
     }
 }

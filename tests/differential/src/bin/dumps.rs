@@ -1,0 +1,5 @@
+//! What the program `dumps` must print, by the reference.
+
+fn main() {
+    print!("{}", reference::dumps::output());
+}
