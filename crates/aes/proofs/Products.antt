@@ -4,14 +4,9 @@ use Prim.Native.Nat.{ℕ, zero, suc, _*_, _/_, _%_, _<_}
 use native.Mathlib.Nat.{mod-lt, zero-mul, one-mul}
 use lib.Dec.{lit<}
 use Rattle.words.specs.Xor.{_⊕_}
-use Rattle.words.proofs.XorLaws.{xor, bit, bit-sum, ⊕-lt, ⊕-double, ⊕-zero-l}
+use Rattle.words.proofs.XorLaws.{xor, bit, bit-over, bit-sum, ⊕-lt, ⊕-double, ⊕-zero-l}
 use Rattle.aes.specs.Field.{xtime, mulBits, gmul}
 use Rattle.aes.proofs.Tests.{each-lt}
-
--- a bit times a sum
-times-sum : (t a b : ℕ) → t < 2 → t * (a ⊕ b) ≡ t * a ⊕ t * b
-times-sum t a b h =
-    bit (λ (u : ℕ). u * (a ⊕ b) ≡ u * a ⊕ u * b) t h (simp (zero-mul, ⊕-zero-l)) (simp one-mul)
 
 pub xtime-xor : (a b : ℕ) → xtime (a ⊕ b) ≡ xtime a ⊕ xtime b
 unfolding xtime
@@ -24,7 +19,7 @@ mulBits-xor : (n k a b : ℕ) → mulBits n k (a ⊕ b) ≡ mulBits n k a ⊕ mu
 unfolding mulBits
 mulBits-xor zero k a b = sym (⊕-zero-l 0)
 mulBits-xor (suc n) k a b =
-    ap₂ _⊕_ (times-sum (k % 2) a b (mod-lt k (lit< tt))) (ap (mulBits n (k / 2)) (xtime-xor a b) ∙ mulBits-xor n (k / 2) (xtime a) (xtime b))
+    ap₂ _⊕_ (bit-over (k % 2) a b (mod-lt k (lit< tt))) (ap (mulBits n (k / 2)) (xtime-xor a b) ∙ mulBits-xor n (k / 2) (xtime a) (xtime b))
     ∙ simp xor
 
 pub gmul-xor : (k a b : ℕ) → gmul k (a ⊕ b) ≡ gmul k a ⊕ gmul k b

@@ -76,14 +76,14 @@ module _ (key iv ad text out : Bytes) (o : InOrder key iv ad text out) where
       ∙ take-at (cipher-of (key .list) (iv .list) (text .list)) (drop (length (text .list)) (out .list)) (length (text .list))
       (cipher-length (key .list) (iv .list) (text .list))
 
-  long : length (sealed-text key iv ad text out) ≡ length (text .list)
-  long = ap length front ∙ cipher-length (key .list) (iv .list) (text .list)
+  pub sealed-long : length (sealed-text key iv ad text out) ≡ length (text .list)
+  sealed-long = ap length front ∙ cipher-length (key .list) (iv .list) (text .list)
 
   -- the tag that seal gave is the one that open makes of what seal wrote
-  tag-again : sealed-tag key iv ad text out ≡ tag-for (key .list) (iv .list) (ad .list) (sealed-text key iv ad text out)
+  pub tag-again : sealed-tag key iv ad text out ≡ tag-for (key .list) (iv .list) (ad .list) (sealed-text key iv ad text out)
   tag-again = seals .tag ∙ ap (tag-for (key .list) (iv .list) (ad .list)) (sym front)
 
-  tag-long : length (sealed-tag key iv ad text out) ≡ 16
+  pub tag-long : length (sealed-tag key iv ad text out) ≡ 16
   tag-long =
       ap length (seals .tag)
       ∙ tag-block (key .list) (iv .list) (ad .list) (cipher-of (key .list) (iv .list) (text .list))
@@ -93,10 +93,10 @@ module _ (key iv ad text out : Bytes) (o : InOrder key iv ad text out) where
     pub gives-back : Opened key iv ad (sealed-text key iv ad text out) (sealed-tag key iv ad text out) into (text .list)
     gives-back =
         opened key iv ad into (o .keyed) (o .ad-fits) (sealed-text key iv ad text out) (sealed-tag key iv ad text out) tag-long
-        (rw long (o .text-fits)) (rw long room) (text .list) tag-again front
+        (rw sealed-long (o .text-fits)) (rw sealed-long room) (text .list) tag-again front
 
     pub no-other : (tag : Bytes) → length (tag .list) ≡ 16 → ¬ (tag .list ≡ sealed-tag key iv ad text out)
         → OpenRefused key iv ad (sealed-text key iv ad text out) (tag .list) into
     no-other tag l h =
-        refused key iv ad into (o .keyed) (o .ad-fits) (sealed-text key iv ad text out) (tag .list) l (rw long (o .text-fits)) (rw long room)
+        refused key iv ad into (o .keyed) (o .ad-fits) (sealed-text key iv ad text out) (tag .list) l (rw sealed-long (o .text-fits)) (rw sealed-long room)
         (λ e. h (e ∙ sym tag-again))

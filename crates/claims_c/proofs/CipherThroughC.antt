@@ -22,8 +22,6 @@ use Rattle.start.specs.Trace.{trace}
 use Rattle.start.proofs.Answers as answers
 use Rattle.start.proofs.Undo.{start-good}
 use Rattle.start.proofs.Tracing.{traces as trace-law}
-use Rattle.page.specs.Page.{cipher-of}
-use Rattle.page.specs.Calls.{seal-number, seal-out, seal-tag}
 use Rattle.claims.specs.Lists.{Bytes}
 use Rattle.claims.proofs.Within.{row-of}
 use Rattle.claims.proofs.Demands.{start-keyed}
@@ -33,9 +31,8 @@ use Rattle.bytes_c.specs.Modes.{mode-named, mode-byte}
 use Rattle.bytes_c.proofs.Sizes.{SizedState}
 use Rattle.bytes_c.proofs.StateLaws.{state-row, state-whole, listed-sized}
 use Rattle.bytes_c.proofs.Answering.{fits, accepted}
-use Rattle.tulvekas.specs.Pages.{seal-answer, seal-writes, seal-writes-tag}
 use Rattle.tulvekas.specs.Cipher.{fitting, keystream-answer, keystream-writes, trace-of-bytes, trace-answer, trace-iv, trace-sealed}
-use Rattle.tulvekas.proofs.Answering.{below-refuses, below-accepts, nothing-later, granted-again}
+use Rattle.tulvekas.proofs.Answering.{below-refuses, below-accepts}
 use Rattle.tulvekas.proofs.CipherAnswers.{trace-bad-key, trace-walks}
 use Rattle.claims_c.specs.ThroughC.{Told, TracesThroughC}
 
@@ -148,19 +145,3 @@ traces state key long = (
     tells (state .list) (key .list) long,
   ),
 )
-
--- ---- whole pages
-
-pub seals : (key iv ad text out tag : List ℕ) → 16 ≤ length tag
-    → (seal-answer key iv ad text out tag ≡ seal-number key iv ad text out)
-    × (seal-writes key iv ad text out tag ≡ seal-out key iv ad text out)
-    × (seal-writes-tag key iv ad text out tag ≡ granted (seal-number key iv ad text out) (seal-tag key iv ad text out ++ drop 16 tag) tag)
-unfolding seal-answer seal-out
-seals key iv ad text out tag room-16 =
-    let n : ℕ = seal-number key iv ad text out in
-    let e : next n (room 16 tag 0) ≡ n = ap (next n) (sym (fits 16 tag 0 room-16)) ∙ sym (nothing-later n) in
-    let o : List ℕ = cipher-of key iv text ++ drop (length text) out in (
-      e,
-      ap (λ (i : ℕ). granted i (granted n o out) out) e ∙ sym (granted-again n o out),
-      ap (λ (i : ℕ). granted i (seal-tag key iv ad text out ++ drop 16 tag) tag) e,
-    )

@@ -1,4 +1,5 @@
 pub mod CipherThroughC
+pub mod PagesThroughC
 pub mod FilesThroughC
 pub mod KeysThroughC
 pub mod SearchThroughC

@@ -42,7 +42,8 @@ use Rattle.tulvekas.proofs.SessionAnswers.{begin-right, resume-right}
 use Rattle.tulvekas.proofs.CipherAnswers.{state-of-right}
 use Rattle.claims_c.specs.Lists.{left, Buffers, CCall, c-call, c-calls, c-after, below, left-state, c-course, CSessionCall, CSessionCall.as-before, CSessionCall.finish, c-goes-on, c-source, c-come-to, session-below}
 use Rattle.claims_c.specs.ThroughC.{Stands, ResumesThroughC, TracesThroughC, NamedThroughC, FindsThroughC, ThroughC}
-use Rattle.claims_c.proofs.CipherThroughC.{keystream, tells-state, traces, seals}
+use Rattle.claims_c.proofs.CipherThroughC.{keystream, tells-state, traces}
+use Rattle.claims_c.proofs.PagesThroughC.{seals, altered-refused}
 use Rattle.claims_c.proofs.FilesThroughC.{opens-file}
 use Rattle.claims_c.proofs.KeysThroughC.{fetches-key, key-fetched, key-gone}
 use Rattle.claims_c.proofs.SearchThroughC.{searches, finds-dump}
@@ -295,6 +296,7 @@ through-c =
       iv-given = iv-given;
       resumed-on = resumed-on;
       seals = seals;
+      altered-refused = λ key iv ad text out tag l room nz p q d c s o into fits. altered-refused key iv ad text out tag l room nz p q d c s o into fits;
       opens-file = opens-file;
       fetches-key = fetches-key;
       key-fetched = key-fetched;

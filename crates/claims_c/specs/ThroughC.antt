@@ -21,7 +21,8 @@ use Rattle.suspend.specs.Walk.{resume-call}
 use Rattle.search.specs.Search.{Searched, Searched.found, Searched.refused, steps-to, Searches}
 use Rattle.search.specs.Counts.{search}
 use Rattle.claims.specs.Lists.{Bytes, Run, course, after, History, History.in-session, History.in-runs, key-of, iv-of, mode-of, drawn, Source, source-key, source-number, source-iv, come-to, ends}
-use Rattle.claims.specs.Claims.{Keyed}
+use Rattle.claims.specs.Claims.{Keyed, InOrder, OpenRefused}
+use Rattle.claims_altered.specs.Claims.{SealedPage, SameLengths, OneBlock, HNotZero}
 use Rattle.claims_search.specs.Claims.{NoLesserCount}
 use Rattle.page.specs.Calls.{seal-number, seal-out, seal-tag}
 use Rattle.page_file.specs.Calls as Files
@@ -179,6 +180,12 @@ pub record ThroughC : Type 0 where
       → (seal-answer key iv ad text out tag ≡ seal-number key iv ad text out)
       × (seal-writes key iv ad text out tag ≡ seal-out key iv ad text out)
       × (seal-writes-tag key iv ad text out tag ≡ granted (seal-number key iv ad text out) (seal-tag key iv ad text out ++ drop 16 tag) tag)
+  -- S-9: where H is not zero, open of the page that seal wrote, altered in one block of its data or ciphertext with its lengths kept, into an output with room, under
+  -- the tag that seal wrote, is refused with 5 and writes nothing.
+  pub altered-refused : (key iv ad text out tag : Bytes) → InOrder key iv ad text out → 16 ≤ length (tag .list) → HNotZero key iv → (p q : SealedPage)
+      → p .ad .list ≡ ad .list → p .cipher .list ≡ take (length (text .list)) (seal-writes (key .list) (iv .list) (ad .list) (text .list) (out .list) (tag .list))
+      → SameLengths p q → OneBlock p q → (into : Bytes) → length (q .cipher .list) ≤ length (into .list)
+      → OpenRefused key iv (q .ad) (q .cipher .list) (take 16 (seal-writes-tag (key .list) (iv .list) (ad .list) (text .list) (out .list) (tag .list))) into
   -- With room for the length, open from a page file tells what that open below answers, and writes what it does; seal into one is the very call below.
   pub opens-file : (key stay : List ℕ) (n : ℕ) (file out len : List ℕ) → 8 ≤ length len
       → ToldOpened (open-answer key stay n file (length out)) len (file-open-answer key stay n file out len) (file-open-length key stay n file out len)

@@ -7,8 +7,9 @@ use Rattle.words.specs.Xor.{_⊕_, xors}
 use Rattle.words.specs.Bytes.{IsBlock}
 use Rattle.ghash.specs.Field.{timesX, steps, product}
 use Rattle.ghash.specs.Hash.{big, bigs, _•_, eat, eats, blocks-of, hashFrom, ghash}
+use Rattle.ghash.specs.Laws.{one}
 use Rattle.ghash.proofs.BigEndian.{big-lt, bigs-big}
-use Rattle.ghash.proofs.Product.{one, one-product, product-one}
+use Rattle.ghash.proofs.Product.{one-product, product-one}
 
 -- 80 00.. is the one
 abbrev pub One : Type 0

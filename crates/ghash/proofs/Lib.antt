@@ -1,10 +1,16 @@
 pub mod Product
+pub mod Ring
+pub mod Squares
+pub mod Squaring
+pub mod Inverse
+pub mod BlockField
 pub mod BigEndian
 pub mod Elements
 pub mod Places
 pub mod Filling
 pub mod Reading
 pub mod Hashing
+pub mod Difference
 pub mod Padding
 pub mod Cases
 pub mod Typed

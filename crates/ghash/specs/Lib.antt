@@ -1,4 +1,5 @@
 pub mod Field
 pub mod Hash
+pub mod Laws
 pub mod Machine
 pub mod Inner

@@ -3,13 +3,13 @@
 use mathlib.Core.Path.{_≡_, sym, ap, ap₂, _∙_}
 use mathlib.Core.List.{List, _++_}
 use Prim.Native.Nat.{ℕ}
-use lib.ListN.{length, length-append}
+use lib.ListN.{length}
 use Rattle.words.specs.Xor.{xors}
 use Rattle.words.specs.Bytes.{Row, IsBlock, zeros}
 use Rattle.words.proofs.Rows.{zeros-block, xors-row}
 use Rattle.ghash.specs.Hash.{lengths, eat, padded, ghash}
-use Rattle.ghash.proofs.BigEndian.{bigs-long}
 use Rattle.ghash.proofs.Hashing.{hashFrom-block}
+use Rattle.ghash.proofs.Padding.{lengths-row}
 use Rattle.digest.specs.Digest.{settled}
 use Rattle.session.specs.Session.{Session}
 use Rattle.session.specs.Pieces.{closed, tag-of}
@@ -19,9 +19,6 @@ use Rattle.page.proofs.Phases.{text-sum, ended, phases}
 use Rattle.page.proofs.Ciphertext.{cipher-length, stream-block}
 use Rattle.page.proofs.Stages.{Stage, ad-of, text-of, sum-at, session-at, closed-at}
 
-lengths-block : (d t : ℕ) → length (lengths d t) ≡ 16
-lengths-block d t = simp (length-append, bigs-long)
-
 module _ (key iv : List ℕ) where
   -- the tag of data and any ciphertext, by the hash of both
   pub tag-by-hash : (d c y : List ℕ) → y ≡ ghash (sealed-keystream key iv 0) (padded d ++ padded c)
@@ -29,7 +26,7 @@ module _ (key iv : List ℕ) where
   unfolding tag-for
   tag-by-hash d c y e =
       ap (λ (x : List ℕ). xors x (sealed-keystream key iv 1))
-      (ended (sealed-keystream key iv 0) d c (lengths (length d) (length c)) y (lengths-block (length d) (length c)) e)
+      (ended (sealed-keystream key iv 0) d c (lengths (length d) (length c)) y (lengths-row (length d) (length c) .long) e)
 
   -- and by that of their bytes one by one
   pub tag-for-is : (d c : List ℕ)
@@ -42,7 +39,7 @@ module _ (key iv : List ℕ) where
   unfolding tag-for
   tag-for-is d c =
       ap (λ (y : List ℕ). xors y (sealed-keystream key iv 1))
-      (phases (sealed-keystream key iv 0) d c (lengths (length d) (length c)) (lengths-block (length d) (length c)))
+      (phases (sealed-keystream key iv 0) d c (lengths (length d) (length c)) (lengths-row (length d) (length c) .long))
 
   closed-sum : (g : Stage) → closed (session-at key iv g) .sum ≡ text-sum (sealed-keystream key iv 0) (ad-of g) (cipher-of key iv (text-of g))
   unfolding session-at sum-at

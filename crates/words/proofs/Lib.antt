@@ -1,4 +1,5 @@
 pub mod XorLaws
+pub mod Additive
 pub mod Tests
 pub mod Rows
 pub mod Bytes

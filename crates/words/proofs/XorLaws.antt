@@ -94,6 +94,10 @@ pub ruleset xor = (⊕-assoc, ⊕-comm, ⊕-left, ⊕-self, ⊕-cancel, ⊕-zero
 pub ⊕-twice : (a b : ℕ) → a ≡ (a ⊕ b) ⊕ b
 ⊕-twice a b = simp xor
 
+-- what differs by nothing is the same
+pub ⊕-equal : (a b : ℕ) → a ⊕ b ≡ 0 → a ≡ b
+⊕-equal a b e = ⊕-twice a b ∙ ap (λ (n : ℕ). n ⊕ b) e ∙ ⊕-zero-l b
+
 -- a bit is 0 or 1
 pub bit : (P : ℕ → Type 0) (t : ℕ) → t < 2 → P 0 → P 1 → P t
 bit P zero h p q = p
@@ -108,6 +112,10 @@ pub bit-times : (c p q : ℕ) → p < 2 → q < 2 → (p ⊕ q) * c ≡ p * c �
 bit-times c p q hp hq =
     bit (λ p. (p ⊕ q) * c ≡ p * c ⊕ q * c) p hp (simp (zero-mul, ⊕-zero-l))
     (bit (λ q. (1 ⊕ q) * c ≡ 1 * c ⊕ q * c) q hq (simp (zero-mul, ⊕-zero-r)) (simp (⊕-self, zero-mul)))
+
+-- a bit times a sum
+pub bit-over : (t a b : ℕ) → t < 2 → t * (a ⊕ b) ≡ t * a ⊕ t * b
+bit-over t a b h = bit (λ t. t * (a ⊕ b) ≡ t * a ⊕ t * b) t h (simp (zero-mul, ⊕-zero-l)) (simp one-mul)
 
 -- the bit at a place of a sum
 pub bit-sum : (a b k c : ℕ) → (a ⊕ b) / 2 ^ k % 2 * c ≡ a / 2 ^ k % 2 * c ⊕ b / 2 ^ k % 2 * c
