@@ -1,5 +1,7 @@
 // The S-box of FIPS 197, and the inverse of its encryption round with a zero key, on a block of four words. A word is a column of the state.
 // MixColumns works on the four bytes of a word at once.
+#![tactic(auto)]
+
 mod table;
 
 ghost use Rattle.std.specs.Prelude.{◌≡◌, map, ◌<◌, ◌%◌, get_or};

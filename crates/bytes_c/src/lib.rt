@@ -1,4 +1,6 @@
 // What C keeps and is told, as bytes: a state in 120, a session in 240, a date in four, and what a call leaves in a lent buffer. The calls for C stand on it.
+#![tactic(auto)]
+
 ghost use Rattle.std.specs.Prelude.{◌≡◌, ◌++◌, ◌+◌, ◌≤◌, length, take, drop};
 ghost use Rattle.std.proofs.lemmas.List.Edits.{sets};
 ghost use Rattle.words.specs.Bytes.{little, part};

@@ -1,4 +1,6 @@
 // Dates of the Gregorian calendar. A day is a number, counted from 1 January 2000 as 0.
+#![tactic(auto)]
+
 ghost use Rattle.std.specs.Prelude.{◌≡◌, true, ◌+◌, ◌*◌, ◌/◌, ◌≤◌, ◌<◌};
 ghost use Rattle.scope.specs.Limits.{last_day};
 ghost use Rattle.calendar.specs.Calendar;
@@ -6,20 +8,20 @@ ghost use Rattle.calendar.specs.Calls;
 ghost use Rattle.calendar.specs.Inner.{to_march, from_march, march_day};
 ghost use Rattle.calendar.specs.Machine.{date_of, dated_of, numbered_of};
 
-#[derive(Drop)]
+#[derive(Clone, Copy)]
 pub struct Date {
     pub year: u64,
     pub month: u64,
     pub day: u64,
 }
 
-#[derive(Drop)]
+#[derive(Clone, Copy)]
 pub enum Dated {
     Found(Date),
     Refused(u64),
 }
 
-#[derive(Drop)]
+#[derive(Clone, Copy)]
 pub enum Numbered {
     Found(u64),
     Refused(u64),

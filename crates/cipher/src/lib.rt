@@ -1,4 +1,6 @@
 // SNOW-V: one step, forward and back, by value and lent, and runs of steps. A state carries its count of blocks, by which steps and runs are refused.
+#![tactic(auto)]
+
 ghost use Rattle.std.specs.Prelude.{◌≡◌, [], ◌∷◌, ◌++◌, ◌*◌, ◌/◌, ◌%◌, ◌≤◌, length, take, drop};
 ghost use Rattle.std.proofs.lemmas.List.Edits.{sets};
 ghost use Rattle.words.specs.Bytes.{little, littles};
@@ -19,7 +21,7 @@ use lfsr::Lfsr;
 use words::Block;
 
 // The contents of A and B, R1, R2 and R3: document 01's cipher state.
-#[derive(Drop)]
+#[derive(Clone, Copy)]
 pub struct Registers {
     pub lfsr: Lfsr,
     pub r1: Block,
@@ -28,28 +30,28 @@ pub struct Registers {
 }
 
 // Document 02's state: the registers, and how many blocks lie between the start and them.
-#[derive(Drop)]
+#[derive(Clone, Copy)]
 pub struct State {
     pub registers: Registers,
     pub count: u64,
 }
 
 // What a step of the registers gives: those that it leads to, and its block z.
-#[derive(Drop)]
+#[derive(Clone, Copy)]
 pub struct Moved {
     pub registers: Registers,
     pub z: Block,
 }
 
 // A step's answer: its block z, or the number of the refusal.
-#[derive(Drop)]
+#[derive(Clone, Copy)]
 pub enum Drawn {
     Z(Block),
     Refused(u64),
 }
 
 // A step by value: the state that it leads to, or the state as it was, and the answer.
-#[derive(Drop)]
+#[derive(Clone, Copy)]
 pub struct Stepped {
     pub state: State,
     pub drawn: Drawn,
@@ -111,7 +113,7 @@ fn sigma(x: Block) -> Block
 }
 
 // What of the step that led to some registers does not hang on register A: R1 and R2 before it, and its z.
-#[derive(Drop)]
+#[derive(Clone, Copy)]
 pub struct Before {
     pub r1: Block,
     pub r2: Block,
@@ -304,7 +306,7 @@ fn steps(s: Registers, out: &mut [u8], n: usize, back: bool) -> Registers
 }
 
 // The state after a run, and how many bytes of the output it wrote.
-#[derive(Drop)]
+#[derive(Clone, Copy)]
 pub struct Ran {
     pub state: State,
     pub wrote: usize,

@@ -1,4 +1,6 @@
 // The program `seal` as a function from the bytes of its input to the bytes of its output.
+#![tactic(auto)]
+
 ghost use Rattle.std.specs.Prelude.{◌≡◌, true, ◌+◌, ◌*◌, ◌≤◌, ◌<◌, length, take, drop};
 ghost use Rattle.std.proofs.lemmas.List.Edits.{sets};
 ghost use Rattle.command.specs.Hex;
@@ -34,7 +36,7 @@ fn digit(b: u8) -> u8
 }
 
 // Where a line ends: the place of its byte 0a.
-#[derive(Drop)]
+#[derive(Clone, Copy)]
 pub enum Line {
     Ends(usize),
     Malformed,
@@ -76,7 +78,7 @@ fn line_from(input: &[u8], at: usize) -> Line
 }
 
 // Where each of the four lines ends.
-#[derive(Drop)]
+#[derive(Clone, Copy)]
 pub struct Places {
     pub key: usize,
     pub iv: usize,
@@ -84,7 +86,7 @@ pub struct Places {
     pub text: usize,
 }
 
-#[derive(Drop)]
+#[derive(Clone, Copy)]
 pub enum Lines {
     Good(Places),
     Malformed,
@@ -188,14 +190,14 @@ fn line_bytes(input: &[u8], from: usize, to: usize, out: &mut [u8; MOST_BYTES]) 
 }
 
 // How many bytes of ciphertext there are, or a refusal's number.
-#[derive(Drop)]
+#[derive(Clone, Copy)]
 pub enum Outcome {
     Done(usize),
     Refused(u64),
 }
 
 // An enum holds no array, so the tag stands beside it (zeros on a refusal).
-#[derive(Drop)]
+#[derive(Clone, Copy)]
 pub struct Answered {
     pub outcome: Outcome,
     pub tag: [u8; 16],

@@ -1,4 +1,6 @@
 // GHASH of bytes that arrive in pieces: the hash so far and the bytes not yet hashed, by whole blocks with a table of H.
+#![tactic(auto)]
+
 ghost use Rattle.std.specs.Prelude.{◌≡◌, ◌++◌, ◌+◌, ◌-◌, ◌%◌, ◌<◌, ◌≤◌, length, take};
 ghost use Rattle.std.proofs.lemmas.List.Edits.{sets};
 ghost use Rattle.std.proofs.Math.Seq.{slice};
@@ -11,7 +13,7 @@ ghost use Rattle.digest.specs.Machine.{sum_of};
 use ghash::Element;
 
 // `pending` holds the bytes not yet hashed, from the left, with zeros behind them.
-#[derive(Drop)]
+#[derive(Clone, Copy)]
 pub struct Held {
     pub acc: Element,
     pub pending: [u8; 16],

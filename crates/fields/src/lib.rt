@@ -1,4 +1,6 @@
 // Bytes, numbers, cells, zeros and the check at a place of a slice: what blocks of 512 bytes and a scheduler's places are written, read and moved with.
+#![tactic(auto)]
+
 ghost use Rattle.std.specs.Prelude.{◌≡◌, ◌+◌, ◌%◌, ◌^◌, ◌<◌, ◌≤◌, ◌++◌, length, take, drop, replicate};
 ghost use Rattle.std.proofs.lemmas.List.Edits.{sets};
 ghost use Rattle.words.specs.Bytes;

@@ -1,5 +1,7 @@
 // GHASH of NIST SP 800-38D on two halves of 64 bits. A product is the xor of 32 entries, one for each four bits of a block, of a table that is
 // made once for an H and lent.
+#![tactic(auto)]
+
 ghost use Rattle.std.specs.Prelude.{◌≡◌, ◌+◌, ◌*◌, ◌<◌, ◌≤◌, set, length};
 ghost use Rattle.std.proofs.lemmas.List.Edits.{sets};
 ghost use Rattle.words.specs.Xor.{xors};
@@ -14,14 +16,14 @@ ghost use Rattle.ghash.specs.Inner.{number_of, entries, multiples, fours, lows, 
 use words::Block;
 
 // A block in the order of its bytes: `lo` is bytes 0 to 7, low byte first, and `hi` bytes 8 to 15.
-#[derive(Drop)]
+#[derive(Clone, Copy)]
 pub struct Element {
     pub lo: u64,
     pub hi: u64,
 }
 
 // The same as a number: `hi` is bytes 0 to 7, high byte first, and `lo` bytes 8 to 15.
-#[derive(Drop)]
+#[derive(Clone, Copy)]
 struct Number {
     hi: u64,
     lo: u64,

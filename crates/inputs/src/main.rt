@@ -1,5 +1,7 @@
 // Inputs of the program, good and malformed, and what the library answers on each. Those that are malformed are so for one reason each, beside
 // a good one.
+#![tactic(auto)]
+
 use libc::STDOUT_FILENO;
 
 fn show(name: &[u8], input: &[u8]) {

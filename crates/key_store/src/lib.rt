@@ -1,4 +1,6 @@
 // A key store: stays' keys in blocks of 512 bytes, each sealed under the season's key; stored, fetched and erased by the stay number. Document 02's shelf.
+#![tactic(auto)]
+
 ghost use Rattle.std.specs.Prelude.{◌≡◌, Bool, true, not, ◌&&◌, ◌+◌, ◌*◌, ◌^◌, ◌≤◌, ◌<◌, eqb, length, replicate};
 ghost use Rattle.scope.specs.Refusals.{pick};
 ghost use Rattle.words.specs.Bytes.{part};
@@ -110,7 +112,7 @@ fn again(store: &[u8], i: usize) -> bool
 
 // What the blocks of a store say, one after the other: whether all obey the rules and no number stands twice; and the places of the first one that is empty,
 // of the first that has a number, and of the first that holds its key, each as many as there are where there is none.
-#[derive(Drop)]
+#[derive(Clone, Copy)]
 struct Seen {
     sound: bool,
     empty: usize,
@@ -204,7 +206,7 @@ pub fn store(key: &[u8], iv: &[u8], stay_key: &[u8], store: &mut [u8]) -> u64
 }
 
 // A fetch's answer, 0 or the refusal's number, and the stay's key (zeros on a refusal).
-#[derive(Drop)]
+#[derive(Clone, Copy)]
 pub struct Fetched {
     pub answer: u64,
     pub key: [u8; 32],

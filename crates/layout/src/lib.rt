@@ -1,4 +1,6 @@
 // The layout rules of the block of 512 bytes that a suspended session is kept in.
+#![tactic(auto)]
+
 ghost use Rattle.std.specs.Prelude.{◌≡◌, ◌%◌, ◌<◌};
 ghost use Rattle.layout.specs.Rules.{phase_length, well_laid};
 

@@ -1,4 +1,6 @@
 // The two registers of SNOW-V: eight clocks at once, and eight clocks back.
+#![tactic(auto)]
+
 ghost use Rattle.std.specs.Prelude.{◌≡◌, ◌++◌, replicate, take};
 ghost use Rattle.words.specs.Xor.{◌⊕◌};
 ghost use Rattle.lfsr.specs.Cells;
@@ -8,7 +10,7 @@ ghost use Rattle.lfsr.specs.Unclock.{solved_v, unclocks};
 ghost use Rattle.lfsr.specs.Machine.{lfsr_of};
 
 // LFSR-A and LFSR-B.
-#[derive(Drop)]
+#[derive(Clone, Copy)]
 pub struct Lfsr {
     pub a: [u16; 16],
     pub b: [u16; 16],

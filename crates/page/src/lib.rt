@@ -1,4 +1,6 @@
 // Whole pages: seal and open.
+#![tactic(auto)]
+
 ghost use Rattle.std.specs.Prelude.{◌≡◌, true, [], ◌≤◌, length};
 ghost use Rattle.scope.specs.Limits.{most_data};
 ghost use Rattle.words.specs.Bytes.{zeros};
@@ -15,7 +17,7 @@ use session::Session;
 use words::Block;
 
 // A seal's answer, 0 or the refusal's number, and the tag (zeros on a refusal).
-#[derive(Drop)]
+#[derive(Clone, Copy)]
 pub struct Tagged {
     pub answer: u64,
     pub tag: [u8; 16],

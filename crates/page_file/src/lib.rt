@@ -1,4 +1,6 @@
 // A page file: pages of 512 bytes, each sealed in its place, and opened by its stay and number. Document 02's stay book.
+#![tactic(auto)]
+
 ghost use Rattle.std.specs.Prelude.{◌≡◌, ◌&&◌, List, [], ◌∷◌, ◌++◌, ℕ, ◌+◌, ◌*◌, ◌^◌, ◌≤◌, ◌<◌, eqb, length, drop, replicate};
 ghost use Rattle.scope.specs.Limits.{most_page_text};
 ghost use Rattle.scope.specs.Refusals.{pick};
@@ -11,7 +13,7 @@ ghost use Rattle.page_file.specs.Machine.{opened_of};
 ghost use Rattle.page_file.specs.Inner.{Surveyed, Finds};
 
 // How many bytes of text an open wrote, or a refusal's number.
-#[derive(Drop)]
+#[derive(Clone, Copy)]
 pub enum Opened {
     Written(u64),
     Refused(u64),
@@ -94,7 +96,7 @@ pub fn seal(
 
 // What the headers of a file's pages say, page by page in file order: whether all have their length and their day in range; and of a stay, how many pages
 // it has, whether they run 0, 1, 2 .., whether they hold the day of the first, that day, and the place of its page n.
-#[derive(Drop)]
+#[derive(Clone, Copy)]
 struct Seen {
     ranged: bool,
     running: bool,
@@ -177,7 +179,7 @@ fn survey(file: &[u8], stay: &[u8], n: u32) -> Seen
 
 // What an open finds before it writes: 0 or the refusal's number, and the text with its padding, of which the first `length` bytes are to be written.
 // Where it is refused, both are zero.
-#[derive(Drop)]
+#[derive(Clone, Copy)]
 pub struct Content {
     pub answer: u64,
     pub length: usize,

@@ -1,5 +1,7 @@
 // Runs the paper's six SNOW-V-GCM vectors, sealed whole and in pieces and opened, document 01's greatest length of text, sessions suspended and
 // resumed, and blocks that are refused, and writes what agrees. The file `stdout` has what it must write.
+#![tactic(auto)]
+
 mod blocks;
 mod cuts;
 mod limits;

@@ -5,7 +5,7 @@ use crate::output;
 use session::Session;
 
 // A session, and whether every call so far was accepted.
-#[derive(Drop)]
+#[derive(Clone, Copy)]
 pub struct Going {
     pub accepted: bool,
     pub session: Session,

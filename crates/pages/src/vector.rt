@@ -49,7 +49,7 @@ fn changed(x: &[u8], at: usize) -> [u8; 64]
     y
 }
 
-#[derive(Drop)]
+#[derive(Clone, Copy)]
 enum Part {
     Tag,
     Ciphertext,

@@ -1,5 +1,7 @@
 // Sealing in one pass: every block of text is read once, and its ciphertext is written once and hashed as it is made. (Of a piece of a session, its last whole
 // block is read again.) Beside it, text under keystream that is drawn already. Nothing here knows a session.
+#![tactic(auto)]
+
 ghost use Rattle.std.specs.Prelude.{◌≡◌, ◌+◌, ◌-◌, ◌*◌, ◌≤◌, length, take, drop};
 ghost use Rattle.std.proofs.lemmas.List.Edits.{sets};
 ghost use Rattle.std.proofs.Math.Seq.{slice};
@@ -16,7 +18,7 @@ use cipher::{Registers, lanes};
 use ghash::Element;
 
 // What blocks move on: the registers, and the hash so far.
-#[derive(Drop)]
+#[derive(Clone, Copy)]
 pub struct Track {
     pub registers: Registers,
     pub hash: Element,

@@ -1,4 +1,6 @@
 // The keeping rule: until which date a page is kept, and whether it is on a day.
+#![tactic(auto)]
+
 ghost use Rattle.std.specs.Prelude.{◌≡◌, ◌≤◌};
 ghost use Rattle.scope.specs.Limits.{last_day};
 ghost use Rattle.calendar.specs.Calendar.{date_on};
@@ -8,7 +10,7 @@ ghost use Rattle.retention.specs.Machine.{verdict_of};
 
 use calendar::{Date, Dated};
 
-#[derive(Drop)]
+#[derive(Clone, Copy)]
 pub enum Verdict {
     Kept,
     NotKept,

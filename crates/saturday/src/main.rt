@@ -1,6 +1,8 @@
 // A changeover Saturday: 33 stays come to a scheduler and are sealed in turns until all have left, with two more that come under numbers which have left, and calls that are
 // refused. Prints what each call answers.
 // The file `stdout` has what it must write.
+#![tactic(auto)]
+
 mod calls;
 mod joins;
 mod made_up;

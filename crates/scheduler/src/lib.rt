@@ -1,6 +1,8 @@
 // The scheduler: up to 32 stays are sealed in turns of 4,096 bytes, and next comes the one whose last turn, or before any its joining, is longest
 // ago. It is 8,208 lent bytes, a head and 32 places
 // (specs/Bytes.antt). Document 02's desk.
+#![tactic(auto)]
+
 ghost use Rattle.std.specs.Prelude.{◌≡◌, false, List, ℕ, ◌+◌, ◌*◌, ◌%◌, ◌<◌, ◌≤◌, min, length, drop};
 ghost use Rattle.std.proofs.lemmas.List.Edits.{sets};
 ghost use Rattle.scope.specs.Limits.{most_stays, most_piece, most_turns};
@@ -204,7 +206,7 @@ pub fn join(scheduler: &mut [u8], key: &[u8], iv: &[u8], length: u64) -> u64
 
 // Whether anybody is there, and then the number of the stay that comes next and the length of its piece; zeros where nobody is. Beside them the answer, 0 or the refusal's
 // number.
-#[derive(Drop)]
+#[derive(Clone, Copy)]
 pub struct NextStay {
     pub answer: u64,
     pub found: bool,
@@ -251,7 +253,7 @@ pub fn next(scheduler: &[u8]) -> NextStay
 // ---- a turn
 
 // What a turn is answered before its session is asked, whether anybody is there, and the place of the next.
-#[derive(Drop)]
+#[derive(Clone, Copy)]
 struct Looked {
     answer: u64,
     found: bool,
@@ -310,7 +312,7 @@ fn session_at(s: &[u8], i: usize) -> Session
 
 // A turn's answer, 0 or the refusal's number; the number of the turn, or 0 where it is not numbered; the stay that was served, whether it has finished and left, and its tag
 // then. Zeros for what there is not.
-#[derive(Drop)]
+#[derive(Clone, Copy)]
 pub struct Turned {
     pub answer: u64,
     pub turn: u64,

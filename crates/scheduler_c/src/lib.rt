@@ -1,4 +1,6 @@
 // The scheduler's answers in bytes, for C: who is next, and a turn. The calls for C stand on it.
+#![tactic(auto)]
+
 ghost use Rattle.std.specs.Prelude.{◌≡◌, ◌++◌, ◌≤◌, eqb, length, drop};
 ghost use Rattle.scope.specs.Refusals.{pick};
 ghost use Rattle.scheduler_c.specs.Calls.{flag, rooms, asked_answer, asked_found, asked_iv, asked_due, turned_answer, turned_out, turned_iv, turned_turn, turned_done, turned_tag, TurnedLeaves};

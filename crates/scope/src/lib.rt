@@ -1,5 +1,6 @@
 // The numbers that documents 01 and 02 fix, named once for all crates: their refusals and their limits. The definitions have the same names in
 // specs/.
+#![tactic(auto)]
 
 // Refusals. 0 is the number of an accepted call.
 pub const ACCEPTED: u64 = 0;

@@ -1,5 +1,7 @@
 // The program: four lines of hex on standard input (key, IV, associated data, text), and on standard output the ciphertext and the tag, or a
 // refusal.
+#![tactic(auto)]
+
 ghost use Rattle.std.specs.Prelude.{length};
 ghost use Rattle.seal.specs.Reading.{Came, Counted};
 
@@ -8,7 +10,7 @@ use libc::{STDIN_FILENO, STDOUT_FILENO};
 // One byte more than the longest input that can be well formed: a full buffer is malformed whatever follows.
 const BUFFER: usize = command::MOST_INPUT + 1;
 
-#[derive(Drop)]
+#[derive(Clone, Copy)]
 enum Step {
     More(usize),
     End,
@@ -30,7 +32,7 @@ fn read_some(buf: &mut [u8]) -> Step
     Step::More(n)
 }
 
-#[derive(Drop)]
+#[derive(Clone, Copy)]
 enum Input {
     Read(usize),
     Failed,

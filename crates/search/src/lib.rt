@@ -1,4 +1,6 @@
 // The search for a state whose count is only roughly known: the least count of a range at which an IV and mode lead to a dump's registers.
+#![tactic(auto)]
+
 ghost use Rattle.std.specs.Prelude.{◌≡◌, ◌++◌, ◌+◌, ◌^◌, ◌≤◌, ◌<◌};
 ghost use Rattle.scope.specs.Limits.{most_blocks};
 ghost use Rattle.words.specs.Machine.{bytes_of};
@@ -18,7 +20,7 @@ use start::{Mode, Traced};
 use words::Block;
 
 // What is found: the count, the IV's bytes 0 to 7 and 8 to 15, low byte first, the mode, and the steps walked.
-#[derive(Drop)]
+#[derive(Clone, Copy)]
 pub struct Located {
     pub count: u64,
     pub lo: u64,
@@ -28,13 +30,13 @@ pub struct Located {
 }
 
 // A refusal's number, and the steps walked: 0 but for 6.
-#[derive(Drop)]
+#[derive(Clone, Copy)]
 pub struct Refusal {
     pub number: u64,
     pub steps: u64,
 }
 
-#[derive(Drop)]
+#[derive(Clone, Copy)]
 pub enum Searched {
     Found(Located),
     Refused(Refusal),

@@ -1,6 +1,8 @@
 // Seals a season's pages into a file, prints the file, opens its pages, and prints what opening says of it whole and damaged, what is refused, and
 // what is sealed all the same.
 // The file `stdout` has what it must write.
+#![tactic(auto)]
+
 mod accepted;
 mod damage;
 mod pages;

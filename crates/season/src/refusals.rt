@@ -87,7 +87,7 @@ pub fn opens(file: [u8; 3584]) {
 }
 
 // What a seal of page 1 of stay 1 is given: how many bytes of the key, of the stay, of text and of the file, the day and the place.
-#[derive(Drop)]
+#[derive(Clone, Copy)]
 struct Call {
     key: usize,
     stay: usize,

@@ -16,7 +16,7 @@ pub fn key() -> [u8; 32] {
 }
 
 // Page n of a stay, and how long its text is.
-#[derive(Drop)]
+#[derive(Clone, Copy)]
 pub struct Page {
     pub stay: u32,
     pub n: u32,

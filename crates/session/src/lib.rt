@@ -1,5 +1,7 @@
 // A sealing session: begin, then data pieces, then text pieces, then finish. The session goes in by value and comes back. A piece of text goes by
 // blocks in blocks.rt; the crate `pass` has the loops that seal, of a piece's whole blocks and of a whole page; lent.rt has the calls for whoever makes the tables once for several.
+#![tactic(auto)]
+
 ghost use Rattle.std.specs.Prelude.{◌≡◌, ◌++◌, ◌+◌, ◌^◌, ◌<◌, ◌≤◌, length, drop};
 ghost use Rattle.scope.specs.Limits.{most_text};
 ghost use Rattle.aes.specs.Tables.{Holds};
@@ -23,7 +25,7 @@ use digest::Held;
 use ghash::Element;
 use words::Block;
 
-#[derive(Drop)]
+#[derive(Clone, Copy)]
 pub struct Session {
     // 0 data, 1 text, 2 finished
     pub phase: u8,
@@ -42,14 +44,14 @@ pub struct Session {
 }
 
 // A call's answer, 0 or the refusal's number, and the session handed back.
-#[derive(Drop)]
+#[derive(Clone, Copy)]
 pub struct Said {
     pub answer: u64,
     pub session: Session,
 }
 
 // A finish's answer, the tag and the IV, and the session handed back. Where it is refused, tag and IV are zeros.
-#[derive(Drop)]
+#[derive(Clone, Copy)]
 pub struct Finished {
     pub answer: u64,
     pub tag: [u8; 16],

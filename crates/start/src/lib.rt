@@ -1,4 +1,6 @@
 // Start in plain and in sealed mode, and trace: from a state back to the IV and mode that lead to it.
+#![tactic(auto)]
+
 ghost use Rattle.std.specs.Prelude.{◌≡◌, ◌++◌, ◌+◌, ◌^◌, ◌≤◌, ◌<◌};
 ghost use Rattle.words.specs.Bytes.{littles, numbers};
 ghost use Rattle.words.specs.Machine.{bytes_of};
@@ -21,7 +23,7 @@ use cipher::{Registers, State, lanes};
 use lfsr::Lfsr;
 use words::Block;
 
-#[derive(Drop)]
+#[derive(Clone, Copy)]
 pub enum Mode {
     Plain,
     Sealed,
@@ -148,7 +150,7 @@ pub fn initials(s: Registers, n: usize, rounds: &[u32; 256]) -> Registers
 }
 
 // The state that a start leads to, and an answer: 0, or the refusal's number, and then the state is all zero.
-#[derive(Drop)]
+#[derive(Clone, Copy)]
 pub struct Started {
     pub answer: u64,
     pub state: State,
@@ -245,7 +247,7 @@ fn uninitial(s: Registers, inverse: &[u8; 256]) -> Registers
 }
 
 // Registers that a walk back has come to, and how many steps have been taken in all, a start's undone steps among them: counted where they are taken.
-#[derive(Drop)]
+#[derive(Clone, Copy)]
 pub struct Walked {
     pub registers: Registers,
     pub steps: u64,
@@ -322,14 +324,14 @@ fn loads(s: Registers, low: Block, high: Block, mode: Mode) -> bool
 }
 
 // Where a state comes from: the IV's bytes 0 to 7 and 8 to 15, low byte first, and the mode.
-#[derive(Drop)]
+#[derive(Clone, Copy)]
 pub struct Origin {
     pub lo: u64,
     pub hi: u64,
     pub mode: Mode,
 }
 
-#[derive(Drop)]
+#[derive(Clone, Copy)]
 pub enum Traced {
     Found(Origin),
     Refused(u64),

@@ -1,4 +1,6 @@
 // A session suspended into a block of 512 bytes, and resumed from it: document 01's park and take up.
+#![tactic(auto)]
+
 ghost use Rattle.std.specs.Prelude.{◌≡◌, ◌++◌, ◌≤◌, length};
 ghost use Rattle.scope.specs.Limits.{most_text};
 ghost use Rattle.words.specs.Bytes.{little};
@@ -55,7 +57,7 @@ pub fn suspend(s: Session, out: &mut [u8]) -> Said
 }
 
 // The answer to a resume: 0 or the refusal's number, the IV, and the session. Where it is refused, the IV is zeros and the session takes no call.
-#[derive(Drop)]
+#[derive(Clone, Copy)]
 pub struct Resumed {
     pub answer: u64,
     pub iv: [u8; 16],

@@ -1,4 +1,6 @@
 // The block of 512 bytes that a suspended session is kept in: written, and read.
+#![tactic(auto)]
+
 ghost use Rattle.std.specs.Prelude.{◌≡◌, ◌++◌, ◌+◌, ◌≤◌, length};
 ghost use Rattle.std.proofs.lemmas.List.Edits.{sets};
 ghost use Rattle.words.specs.Bytes.{littles, part};
@@ -13,7 +15,7 @@ use digest::Held;
 use lfsr::Lfsr;
 
 // What a block keeps of a session.
-#[derive(Drop)]
+#[derive(Clone, Copy)]
 pub struct Suspended {
     pub phase: u8,
     pub ad: u64,

@@ -2,6 +2,8 @@
 // refusal, which changes no lent byte, but for 6 of a search, which writes its steps; bytes behind what is written stay. Nothing is kept between calls but what
 // the caller was handed: a session is 240 lent bytes, a state 120, a scheduler 8,208. Rust's rule for references holds for C as well: a buffer that a call writes overlaps no other
 // buffer of that call.
+#![tactic(auto)]
+
 ghost use Rattle.std.specs.Prelude.{◌≡◌, List, ℕ};
 ghost use Rattle.scope.specs.Refusals.{short_output};
 ghost use Rattle.page.specs.Calls.{seal_number, open_number, open_out};

@@ -1,5 +1,7 @@
 // Runs the paper's three SNOW-V keystream vectors, and the documents' cases of the greatest count of blocks, and writes what agrees. The file
 // `stdout` has what it must write.
+#![tactic(auto)]
+
 mod call;
 mod far_end;
 mod keystream;

@@ -6,7 +6,7 @@ use cipher::{Drawn, Registers, State, Stepped};
 use start::Mode;
 use words::Block;
 
-#[derive(Drop)]
+#[derive(Clone, Copy)]
 enum Part {
     Initialisation,
     Keystream,
@@ -169,7 +169,7 @@ fn eight(s: State, out: &mut [u8], back: bool, stepwise: bool) -> State
 }
 
 // How many blocks agree, forward and back.
-#[derive(Drop)]
+#[derive(Clone, Copy)]
 struct Agreed {
     forward: u64,
     back: u64,

@@ -1,5 +1,7 @@
 // The AES encryption round with a zero key by a table of 256 words, each an S-box byte already multiplied for its column: four look-ups make a
 // column, for SubBytes, ShiftRows and MixColumns together.
+#![tactic(auto)]
+
 mod entries;
 
 ghost use Rattle.std.specs.Prelude.{◌≡◌, [], ◌∷◌, ◌+◌, ◌≤◌, length};

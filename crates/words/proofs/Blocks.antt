@@ -1,6 +1,6 @@
 -- The machine's block, four words of 32 bits, against its 16 bytes: where it is read from, where it is written to, and what is done to two
 -- word by word.
-use Rattle.std.proofs.Common.{◌≡◌, ℕ, zero, suc, ◌+◌, ◌-◌, ◌*◌, ◌^◌, ◌<◌, ◌≤◌, Bool, true, ◌&&◌, eqb, List, [], ◌∷◌, length, get_or, take, drop, sym, refl, ap, ◌∙◌, ap₂, arith, lit<, length-drop, length-take, eq-eqb, eqb-true}
+use Rattle.std.proofs.Common.{◌≡◌, ℕ, zero, suc, ◌+◌, ◌*◌, ◌^◌, ◌<◌, ◌≤◌, Bool, true, ◌&&◌, eqb, List, [], ◌∷◌, length, get_or, take, drop, sym, refl, ap, ◌∙◌, ap₂, arith, lit<, length-drop, length-take, eq-eqb, eqb-true}
 use lib.Seq.{sets}
 use Rattle.words.specs.Xor.{pointwise}
 use Rattle.words.specs.Bytes.{little, number, littles, numbers, same, Row, IsBlock}

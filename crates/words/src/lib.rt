@@ -1,4 +1,6 @@
 // Blocks of 16 bytes as four words of 32 bits, low byte first: read, written, compared, added, subtracted and xored.
+#![tactic(auto)]
+
 ghost use Rattle.std.specs.Prelude.{◌≡◌, ◌+◌, ◌<◌, ◌≤◌, ◌++◌, length};
 ghost use Rattle.std.proofs.lemmas.List.Edits.{sets};
 ghost use Rattle.words.specs.Xor.{xors};
@@ -9,7 +11,7 @@ ghost use Rattle.words.specs.Bytes.{number, little, part, zeros};
 ghost use Rattle.words.specs.Machine.{bytes_of};
 
 // A block: byte 0 is the low byte of `w0`, byte 15 the high byte of `w3`.
-#[derive(Drop)]
+#[derive(Clone, Copy)]
 pub struct Block {
     pub w0: u32,
     pub w1: u32,

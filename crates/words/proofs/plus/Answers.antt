@@ -2,23 +2,12 @@
 use Rattle.std.proofs.Common.{arith, rules}
 use Rattle.words.specs.Sums.{add32, ◌⊞◌}
 use Rattle.words.proofs.Blocks.{four, is_wordwise}
-use Rattle.words.proofs.plus.Statement.{statement}
-use Rattle.words.proofs.plus.Tie as tie
+use Rattle.words.proofs.plus.Goals as goal
 
-returns : tie.Need-returns
+pub returns : goal.returns
 unfolding ◌⊞◌
 returns c =
-    let s = c.before.before.before.before.args in
+    let s = c.args in
     is_wordwise add32 s.x s.y _ (record { in_0 = search rules; in_1 = search rules; in_2 = search rules; in_3 = search rules })
     (record { in_0 = search rules; in_1 = search rules; in_2 = search rules; in_3 = search rules })
     (four (omega arith) (omega arith) (omega arith) (omega arith))
-
-pub plus-spec : {M : Type 1} → statement M
-plus-spec =
-    tie.close
-    (tie.spec
-    (λ c κs. search rules)
-    (λ c κs. search rules)
-    (λ c κs. search rules)
-    (λ c κs. search rules)
-    returns)

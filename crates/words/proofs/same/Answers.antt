@@ -1,14 +1,10 @@
 -- `words::same` meets its contract: blocks are the same where their words are.
 use Rattle.std.proofs.Common.{rules}
 use Rattle.words.proofs.Blocks.{same_words}
-use Rattle.words.proofs.same.Statement.{statement}
-use Rattle.words.proofs.same.Tie as tie
+use Rattle.words.proofs.same.Goals as goal
 
-returns : tie.Need-returns
+pub returns : goal.returns
 returns c =
-    let a = c.before.before.before.before.before.before.before.before.args in
+    let a = c.args in
     same_words a.x a.y (record { in_0 = search rules; in_1 = search rules; in_2 = search rules; in_3 = search rules })
     (record { in_0 = search rules; in_1 = search rules; in_2 = search rules; in_3 = search rules })
-
-pub same_spec : {M : Type 1} → statement M
-same_spec = tie.close (tie.spec returns)
