@@ -3,12 +3,12 @@
 use mathlib.Core.Path.{◌≡◌, refl, sym, ap, ap₂, ◌∙◌}
 use Prim.Native.Nat.{ℕ, zero, suc, ◌*◌, ◌/◌, ◌%◌, ◌^◌, ◌<◌}
 use native.Mathlib.Omega.{arith}
-use native.Mathlib.Nat.{mod-lt, zero-mul, one-mul, mul-one, mul-mod_left, mul-div_cancel, mod-eq_of_lt, div-eq_of_lt, pow-suc, mul_assoc, lt_of_le_of_lt}
+use native.Mathlib.Nat.{zero-mul, one-mul, mul-one, mul-mod_left, mul-div_cancel, mod-eq_of_lt, div-eq_of_lt, pow-suc, mul_assoc, lt_of_le_of_lt}
 use native.Mathlib.Numerals.{one-add}
 use lib.Dec.{lit<}
-use lib.Pow.{mod-pow-add, pow_pos, shr_le, shr-shr}
+use lib.Pow.{shr_le, shr-shr}
 use Rattle.words.specs.Xor.{◌⊕◌}
-use Rattle.words.proofs.XorLaws.{xor, odd, bit_lt, bit_sum, ⊕-zero-l, ⊕-zero-r, ⊕-self, ⊕-lt, ⊕-shifted}
+use Rattle.words.proofs.XorLaws.{xor, odd, bit_lt, bit_sum, ⊕-zero-l, ⊕-zero-r, ⊕-lt}
 use Rattle.words.proofs.Additive.{additive_zero, top_bit}
 use Rattle.ghash.specs.Field.{R, times_x, steps, product}
 use Rattle.ghash.specs.Laws.{one}

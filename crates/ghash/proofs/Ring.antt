@@ -2,7 +2,6 @@
 -- by X is itself such a map, so products by X and by Y change places, and with the one that makes them commute and associate.
 use mathlib.Core.Path.{◌≡◌, refl, sym, ap, ap₂, ◌∙◌}
 use Prim.Native.Nat.{ℕ, zero, suc, ◌*◌, ◌/◌, ◌%◌, ◌^◌, ◌<◌}
-use native.Mathlib.Nat.{zero-mul, one-mul, pow-suc}
 use lib.Dec.{lit<}
 use Rattle.words.specs.Xor.{◌⊕◌}
 use Rattle.words.proofs.XorLaws.{xor, odd, bit_lt, bit_over, bit_times, ⊕-half, ⊕-mod, ⊕-zero-l}

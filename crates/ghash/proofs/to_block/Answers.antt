@@ -6,15 +6,11 @@ use Rattle.words.specs.Machine.{bytes_of}
 use Rattle.ghash.specs.Machine.{bytes_of_element}
 use Rattle.ghash.proofs.Elements.{four_words, apart}
 use borrow.Author.Rules.{rules}
-use Rattle.ghash.proofs.to_block.Statement.{statement}
-use Rattle.ghash.proofs.to_block.Tie as tie
+use Rattle.ghash.proofs.to_block.Goals as goal
 
-returns : tie.Need-returns
+pub returns : goal.returns
 unfolding bytes_of_element bytes_of
 returns c =
-    let e = c.before.before.before.before.args.e in
+    let e = c.args.e in
     four_words (e.lo % 2 ^ 32) (e.lo / 2 ^ 32) (e.hi % 2 ^ 32) (e.hi / 2 ^ 32)
     ∙ sym (ap₂ (λ (s t : List ℕ). s ++ t) (apart e.lo (search rules)) (apart e.hi (search rules)))
-
-pub to-block-spec : {M : Type 1} → statement M
-to-block-spec = tie.close (tie.spec (λ c. search rules) (λ c. search rules) (λ c. search rules) (λ c. search rules) returns)
