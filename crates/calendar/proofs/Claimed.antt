@@ -10,7 +10,7 @@ use Rattle.scope.specs.Limits.{first_year, last_year, last_day}
 use Rattle.scope.specs.Refusals.{day_range}
 use Rattle.words.proofs.Tests.{and_left, and_right}
 use Rattle.calendar.specs.Calendar.{leap, month_length, Date, date, on_calendar, on_or_before, date_on, days_of_months, days_of_years, day_of}
-use Rattle.calendar.specs.Calls.{Dated, Dated.dated, Dated.refused, Numbered, Numbered.numbered, to_date, has_day, to_day}
+use Rattle.calendar.specs.Calls.{Dated, Dated.dated, Numbered, Numbered.numbered, to_date, has_day, to_day}
 use Rattle.calendar.specs.Inner.{Small}
 use Rattle.calendar.specs.Laws.{DaysAndDates}
 use Rattle.calendar.proofs.Counting.{month_most, years_next, years_rise}

@@ -5,7 +5,7 @@ use Rattle.calendar.specs.declared.Dated.TheVariants as case-dated
 use Rattle.calendar.specs.declared.Numbered as machine-numbered
 use Rattle.calendar.specs.declared.Numbered.TheVariants as case-numbered
 use Rattle.calendar.specs.Calendar.{Date, date}
-use Rattle.calendar.specs.Calls.{Dated, Dated.dated, Dated.refused, Numbered, Numbered.numbered}
+use Rattle.calendar.specs.Calls.{Dated, Dated.dated, Numbered, Numbered.numbered}
 
 abbrev pub date_of : machine-date.Date → Date
 date_of d = date d.year d.month d.day
