@@ -4,12 +4,8 @@ use Rattle.words.specs.Bytes.{number}
 use Rattle.aes.specs.Field.{xtime, mul_bits, gmul, square, pow_ones, inverse, rotated, affine, sub}
 use Rattle.aes.proofs.Tests.{holds}
 use Rattle.wide_round.specs.Wide.{wide}
-use Rattle.wide_round.proofs.table.Statement.{statement}
-use Rattle.wide_round.proofs.table.Tie as tie
+use Rattle.wide_round.proofs.table.Goals as goal
 
-returns : tie.Need-returns
+pub returns : goal.returns
 unfolding xtime mul_bits gmul square pow_ones inverse rotated affine sub wide number ◌⊕◌
 returns c = holds wide _ tt
-
-pub table-spec : {M : Type 1} → statement M
-table-spec = tie.close (tie.spec returns)
