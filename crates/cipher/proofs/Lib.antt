@@ -5,9 +5,6 @@ pub mod Typed
 pub mod Counting
 pub mod Stepping
 pub mod Running
-pub mod LentAgain
-pub mod FrontPart
-pub mod PartHanded
 pub mod StepsBack
 pub mod CountedSteps
 pub mod Standing

@@ -14,6 +14,7 @@ ghost use Rattle.cipher.specs.State.{Drawn.block, Drawn.refused, counted, steps_
 ghost use Rattle.cipher.specs.Machine.{registers_of, state_of, drawn_of, Moves, Steps};
 ghost use Rattle.cipher.specs.Inner.{Precedes};
 ghost use Rattle.cipher.specs.Lent.{front_of};
+ghost use Rattle.std.specs.Borrow.{sem};
 
 pub mod lanes;
 
@@ -347,24 +348,4 @@ pub fn run_core(s: State, answer: &mut u64, out: &mut [u8], n: usize, back: bool
         state: state,
         wrote: 16 * n,
     }
-}
-
-// The same with the state lent; the part of the output that holds the blocks comes back, empty on a refusal. Where they fill the output it is
-// the output itself.
-pub fn run<'a>(
-    s: &mut State,
-    answer: &mut u64,
-    out: &'a mut [u8],
-    n: usize,
-    back: bool,
-) -> &'a mut [u8]
-    ensures state { state_of s.new ≡ run_state back (state_of s.old) (length out.old) n }
-    ensures answer { answer.new ≡ run_number back s.old.count (length out.old) n }
-    ensures part { (result.ref_ptr ≡ out.entry.ref_ptr) × (result.now ≡ run_part back (state_of s.old) (length out.old) n) }
-    ensures* rest { front_of 𝓤 𝓛.A out.entry result (drop (length result.now) out.old) }
-{
-    let t = run_core(*s, answer, out, n, back);
-    *s = t.state;
-    let k = t.wrote;
-    &mut out[..k]
 }
