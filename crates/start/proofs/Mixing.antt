@@ -1,7 +1,7 @@
 -- What is xored into a8 to a15 or into R1 a second time is out again; and both keep registers registers.
 use mathlib.Core.Path.{◌≡◌, sym, ap, ap₂, ◌∙◌}
 use mathlib.Core.List.{List, ◌++◌}
-use Prim.Native.Nat.{ℕ, ◌+◌, ◌-◌, ◌<◌, ◌≤◌}
+use Prim.Native.Nat.{ℕ}
 use lib.Dec.{lit<, lit≤}
 use lib.ListN.{take, drop, take-append-drop}
 use lib.Seq.{take_at, drop_at}

@@ -2,7 +2,7 @@
 -- after it and xored out, and then the step goes back.
 use mathlib.Core.Path.{◌≡◌, refl, sym, ap, ap₂, ◌∙◌}
 use mathlib.Core.List.{List}
-use Prim.Native.Nat.{ℕ, zero, suc, ◌-◌, ◌<◌, ◌≤◌}
+use Prim.Native.Nat.{ℕ, zero, suc}
 use lib.Dec.{lit<, lit≤}
 use lib.ListN.{take, drop}
 use Rattle.words.specs.Bytes.{Row, IsBlock}
