@@ -9,23 +9,20 @@ use Rattle.digest.specs.Sum.{Sum}
 use Rattle.digest.specs.Digest.{settled}
 use Rattle.session.specs.Machine.{session_of}
 use Rattle.page.specs.Inner.{tag_over}
-use borrow.Author.Rules.{rules}
-use Rattle.page.proofs.tag_over.Statement.{statement}
-use Rattle.page.proofs.tag_over.Tie as tie
+use Rattle.page.proofs.tag_over.Goals as goal
 
-returns : tie.Need-returns
+pub returns : goal.returns
 unfolding tag_over
 returns c =
-    let y = c.before in
-    let e = y.before in
-    let a = e.before.before.before.before.args in
+    let a = c.args in
     let s = session_of a.s in
     let n = length a.cipher.now in
-    c.tag-from.ensures
+    c.tag_from.ensures
     ∙ ap (λ (x : List ℕ). xors (eat s.h x (lengths s.ad n)) s.pad)
-    (y.settle-with.ensures ∙ ap (λ (m : Sum). settled s.h m n) e.absorb-with.ensures)
+    (c.settle_with-y.ensures ∙ ap (λ (m : Sum). settled s.h m n) c.absorb_with-e.ensures)
 
-pub tag-over-spec : {M : Type 1} → statement M
-tag-over-spec =
-    tie.close
-    (tie.spec (λ c κs. c.before.before.before.requires) (λ c κs. c.before.before.before.before.requires) (λ c κs. search rules) returns)
+pub absorb_with-e-requires : goal.absorb_with-e-requires
+absorb_with-e-requires c = c.requires
+
+pub settle_with-y-requires : goal.settle_with-y-requires
+settle_with-y-requires c = c.requires
