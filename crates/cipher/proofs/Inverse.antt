@@ -2,7 +2,7 @@
 -- has exactly one state before it and one after it, and the z of the step between them can be had from either.
 use mathlib.Core.Path.{◌≡◌, sym, ap, ap₂, ◌∙◌}
 use mathlib.Core.List.{List}
-use Prim.Native.Nat.{ℕ, ◌-◌, ◌*◌, ◌<◌, ◌≤◌}
+use Prim.Native.Nat.{ℕ, ◌*◌}
 use lib.Dec.{lit<, lit≤}
 use lib.ListN.{take, drop}
 use Rattle.words.specs.Xor.{xors}

@@ -8,3 +8,4 @@ pub mod Running
 pub mod StepsBack
 pub mod CountedSteps
 pub mod Standing
+pub mod FrontPart

@@ -349,3 +349,33 @@ pub fn run_core(s: State, answer: &mut u64, out: &mut [u8], n: usize, back: bool
         wrote: 16 * n,
     }
 }
+
+// The same with the state lent: how many bytes were written comes back.
+fn run_lent(s: &mut State, answer: &mut u64, out: &mut [u8], n: usize, back: bool) -> usize
+    ensures state { state_of s.new ≡ run_state back (state_of s.old) (length out.old) n }
+    ensures wrote { result ≡ length (run_part back (state_of s.old) (length out.old) n) }
+    ensures answer { answer.new ≡ run_number back s.old.count (length out.old) n }
+    ensures out { out.new ≡ run_part back (state_of s.old) (length out.old) n ++ drop (length (run_part back (state_of s.old) (length out.old) n)) out.old }
+{
+    let t = run_core(*s, answer, out, n, back);
+    *s = t.state;
+    t.wrote
+}
+
+// The same where the part of the output that holds the blocks comes back, empty on a refusal: the output ends as that part ends, and behind it the rest
+// as it was.
+pub fn run<'a>(
+    s: &mut State,
+    answer: &mut u64,
+    out: &'a mut [u8],
+    n: usize,
+    back: bool,
+) -> &'a mut [u8]
+    ensures state { state_of s.new ≡ run_state back (state_of s.old) (length out.old) n }
+    ensures answer { answer.new ≡ run_number back s.old.count (length out.old) n }
+    ensures part { (result.ref_ptr ≡ out.entry.ref_ptr) × (result.now ≡ run_part back (state_of s.old) (length out.old) n) }
+    ensures* rest { sem 𝓛 (front_of out.entry result (drop (length result.now) out.old)) }
+{
+    let k = run_lent(s, answer, out, n, back);
+    &mut out[..k]
+}

@@ -6,7 +6,6 @@ use Rattle.cipher.specs.Machine.{state_of}
 use Rattle.cipher.proofs.Typed.{every_state}
 use Rattle.cipher.proofs.Stepping.{state_stays, answer_refused, state_moves, answer_block, moved_one}
 use Rattle.cipher.proofs.CountedSteps.{leads_state, leads_block}
-use borrow.Author.Rules.{rules}
 use Rattle.cipher.proofs.back_by_value.Goals as goal
 use Rattle.cipher.proofs.back_by_value.Goals.{Else-number-ne0}
 

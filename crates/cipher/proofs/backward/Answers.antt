@@ -4,7 +4,6 @@ use Rattle.cipher.specs.Run.{move, made}
 use Rattle.cipher.specs.Machine.{registers_of}
 use Rattle.cipher.proofs.Inverse.{z_before_is}
 use Rattle.cipher.proofs.Typed.{every_registers}
-use borrow.Author.Rules.{rules}
 use Rattle.cipher.proofs.backward.Goals as goal
 
 pub returns : goal.returns

@@ -1,7 +1,6 @@
 -- `cipher::eight` meets its contract: each pair of cells is a word of the block.
 use Rattle.words.specs.Machine.{bytes_of}
 use Rattle.cipher.proofs.Halves.{half_bytes}
-use borrow.Author.Rules.{rules}
 use Rattle.cipher.proofs.eight.Goals as goal
 
 pub returns : goal.returns

@@ -6,7 +6,6 @@ use Rattle.words.specs.Bytes.{littles}
 use Rattle.words.specs.Differences.{◌⊟◌}
 use Rattle.lfsr.specs.Clock.{Lfsr}
 use Rattle.cipher.specs.Back.{back}
-use borrow.Author.Rules.{rules}
 use Rattle.cipher.proofs.registers_before.Goals as goal
 
 pub returns : goal.returns

@@ -1,15 +1,8 @@
 -- `cipher::run_back` meets its contract: after i turns i steps back are made, and their blocks stand at the front of the output.
-use Prim.Native.Nat.{ℕ, ◌+◌, ◌*◌, ◌-◌}
-use mathlib.Core.Path.{◌≡◌, ap, ◌∙◌}
-use native.Mathlib.Omega.{arith}
-use borrow.Author.Rules.{rules}
-use lib.Seq.{sets}
-use Rattle.words.specs.Machine.{bytes_of}
-use Rattle.cipher.specs.Registers.{IsRegisters}
+use Prim.Native.Nat.{◌-◌}
 use Rattle.cipher.specs.Run.{backward}
 use Rattle.cipher.specs.Machine.{registers_of}
-use Rattle.cipher.proofs.Typed.{every_registers}
-use Rattle.cipher.proofs.Running.{Made, made_none, made_long, made_one, made_all}
+use Rattle.cipher.proofs.Running.{Made}
 use Rattle.cipher.proofs.run_back.Given as goal
 
 abbrev pub invariant-loop-i : goal.invariant-loop-i

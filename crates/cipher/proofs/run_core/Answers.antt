@@ -7,7 +7,6 @@ use Rattle.cipher.specs.Machine.{state_of}
 use Rattle.cipher.proofs.Typed.{every_state}
 use Rattle.cipher.proofs.Counting.{run_fits}
 use Rattle.cipher.proofs.Running.{not_counted, no_room, accepted}
-use borrow.Author.Rules.{rules}
 use Rattle.cipher.proofs.run_core.Goals as goal
 use Rattle.cipher.proofs.run_core.Goals.{Else-number-ne0}
 

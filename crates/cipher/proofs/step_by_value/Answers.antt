@@ -4,7 +4,6 @@ use Rattle.cipher.specs.Run.{forward}
 use Rattle.cipher.specs.State.{Drawn.block, Drawn.refused, step_number}
 use Rattle.cipher.specs.Machine.{state_of}
 use Rattle.cipher.proofs.Stepping.{state_stays, answer_refused, state_moves, answer_block, moved_one}
-use borrow.Author.Rules.{rules}
 use Rattle.cipher.proofs.step_by_value.Goals as goal
 use Rattle.cipher.proofs.step_by_value.Goals.{Else-number-ne0}
 

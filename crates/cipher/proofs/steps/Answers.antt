@@ -1,5 +1,4 @@
 -- `cipher::steps` meets its contract: it is the run of its direction.
-use borrow.Author.Rules.{rules}
 use Rattle.cipher.proofs.steps.Goals as goal
 
 pub returns-then-back : goal.returns-then-back

@@ -1,7 +1,6 @@
 -- `cipher::steps_number` meets its contract, test by test.
 use mathlib.Core.Path.{sym}
 use Rattle.cipher.proofs.Counting.{far_count, far_run, far_on, goes_on, far_back, goes_back}
-use borrow.Author.Rules.{rules}
 use Rattle.cipher.proofs.steps_number.Goals as goal
 
 pub returns-then-count-gt-MOST_BLOCKS : goal.returns-then-count-gt-MOST_BLOCKS

@@ -3,7 +3,6 @@ use mathlib.Core.Path.{ap₂, ◌∙◌}
 use Rattle.words.specs.Xor.{xors}
 use Rattle.words.specs.Sums.{◌⊞◌}
 use Rattle.cipher.specs.Back.{back, z_before}
-use borrow.Author.Rules.{rules}
 use Rattle.cipher.proofs.z_before.Goals as goal
 
 pub returns : goal.returns

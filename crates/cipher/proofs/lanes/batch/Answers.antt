@@ -1,5 +1,5 @@
 -- `cipher::lanes::batch` meets its contract: after i turns the lanes stand at step i, and the blocks of i steps are written.
-use Prim.Native.Nat.{ℕ, ◌+◌, ◌*◌, ◌-◌, ◌^◌, ◌<◌, ◌≤◌}
+use Prim.Native.Nat.{ℕ, ◌+◌, ◌*◌, ◌^◌, ◌<◌, ◌≤◌}
 use mathlib.Core.Path.{◌≡◌, refl, sym, ap, subst, ◌∙◌}
 use mathlib.Core.List.{List}
 use native.Mathlib.Omega.{arith}
@@ -9,14 +9,12 @@ use Rattle.words.specs.Xor.{xors}
 use Rattle.words.specs.Bytes.{littles, part}
 use Rattle.words.specs.Sums.{◌⊞◌}
 use Rattle.words.specs.Machine.{bytes_of}
-use Rattle.cipher.specs.Registers.{IsRegisters}
 use Rattle.cipher.specs.Run.{forward, moves}
 use Rattle.cipher.specs.Step.{sigma}
 use Rattle.cipher.specs.Machine.{registers_of}
 use Rattle.cipher.proofs.Typed.{every_registers}
-use Rattle.cipher.proofs.Running.{Made, made_none, made_long, made_one, made_all}
+use Rattle.cipher.proofs.Running.{made_none, made_long, made_one, made_all}
 use Rattle.cipher.proofs.Standing.{Standing, Turned, standing_first, batch_z, batch_stands, standing_read, moves_lfsr, next_moves}
-use borrow.Author.Rules.{rules}
 use Rattle.cipher.proofs.lanes.batch.Goals as goal
 use Rattle.cipher.proofs.lanes.batch.Goals.{After-slice_known-in-loop-i-1, After-store-in-loop-i, After-store-in-loop-i-2, In-loop-i}
 

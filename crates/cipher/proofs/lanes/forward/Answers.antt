@@ -9,7 +9,6 @@ use Rattle.cipher.specs.Machine.{registers_of}
 use Rattle.cipher.proofs.Typed.{every_registers}
 use Rattle.cipher.proofs.Moves.{made_block, blocks_one}
 use Rattle.words.proofs.Writing.{read_written}
-use borrow.Author.Rules.{rules}
 use Rattle.cipher.proofs.lanes.forward.Goals as goal
 
 pub returns : goal.returns

@@ -1,11 +1,8 @@
 -- `cipher::lanes::leave` meets its contract: what is left to put makes of the lane what all eight cells make of it.
-use Prim.Native.Nat.{ℕ, ◌+◌, ◌-◌, ◌≤◌}
-use mathlib.Core.Path.{◌≡◌, ap₂, ◌∙◌}
-use native.Mathlib.Omega.{arith}
-use lib.ListN.{length, set, get_or, length-set}
+use Prim.Native.Nat.{◌+◌, ◌-◌, ◌≤◌}
+use mathlib.Core.Path.{◌≡◌}
+use lib.ListN.{length}
 use lib.Seq.{sets, slice}
-use borrow.Author.Rules.{rules}
-use Rattle.words.proofs.Writing.{put_turn, put_end}
 use Rattle.cipher.proofs.lanes.leave.Given as goal
 
 abbrev pub invariant-loop-j : goal.invariant-loop-j

@@ -1,7 +1,6 @@
 -- `cipher::lanes::moved_to` meets its contract: each register is the one that was put there.
 use Rattle.lfsr.specs.Machine.{lfsr_of}
 use Rattle.words.specs.Machine.{bytes_of}
-use borrow.Author.Rules.{rules}
 use Rattle.cipher.proofs.lanes.moved_to.Goals as goal
 
 pub returns : goal.returns

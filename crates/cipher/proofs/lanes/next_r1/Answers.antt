@@ -4,7 +4,6 @@ use mathlib.Core.List.{List}
 use Prim.Native.Nat.{ℕ}
 use Rattle.words.specs.Sums.{◌⊞◌}
 use Rattle.cipher.specs.Step.{sigma}
-use borrow.Author.Rules.{rules}
 use Rattle.cipher.proofs.lanes.next_r1.Goals as goal
 
 pub returns : goal.returns

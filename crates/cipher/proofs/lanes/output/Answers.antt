@@ -5,7 +5,6 @@ use Prim.Native.Nat.{ℕ}
 use Rattle.words.specs.Xor.{xors}
 use Rattle.words.specs.Sums.{◌⊞◌}
 use Rattle.words.specs.Machine.{bytes_of}
-use borrow.Author.Rules.{rules}
 use Rattle.cipher.proofs.lanes.output.Goals as goal
 
 pub returns : goal.returns

@@ -1,5 +1,5 @@
 -- `cipher::lanes::run_forward` meets its contract: batch by batch, the steps so far are made and their blocks written.
-use Prim.Native.Nat.{ℕ, ◌+◌, ◌*◌, ◌-◌}
+use Prim.Native.Nat.{ℕ, ◌+◌, ◌*◌}
 use mathlib.Core.Path.{◌≡◌, ap, ◌∙◌}
 use native.Mathlib.Omega.{arith}
 use lib.Seq.{sets}
@@ -7,8 +7,7 @@ use Rattle.cipher.specs.Registers.{IsRegisters}
 use Rattle.cipher.specs.Run.{forward, blocks}
 use Rattle.cipher.specs.Machine.{registers_of}
 use Rattle.cipher.proofs.Typed.{every_registers}
-use Rattle.cipher.proofs.Running.{Made, made_none, made_long, made_more, made_all}
-use borrow.Author.Rules.{rules}
+use Rattle.cipher.proofs.Running.{made_none, made_long, made_more, made_all}
 use Rattle.cipher.proofs.lanes.run_forward.Goals as goal
 use Rattle.cipher.proofs.lanes.run_forward.Goals.{Start}
 

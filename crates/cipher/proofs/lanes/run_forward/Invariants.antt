@@ -1,14 +1,8 @@
 -- `cipher::lanes::run_forward` meets its contract: batch by batch, the steps so far are made and their blocks written.
-use Prim.Native.Nat.{ℕ, ◌+◌, ◌*◌, ◌-◌}
-use mathlib.Core.Path.{◌≡◌, ap, ◌∙◌}
-use native.Mathlib.Omega.{arith}
-use lib.Seq.{sets}
-use Rattle.cipher.specs.Registers.{IsRegisters}
-use Rattle.cipher.specs.Run.{forward, blocks}
+use Prim.Native.Nat.{◌-◌}
+use Rattle.cipher.specs.Run.{forward}
 use Rattle.cipher.specs.Machine.{registers_of}
-use Rattle.cipher.proofs.Typed.{every_registers}
-use Rattle.cipher.proofs.Running.{Made, made_none, made_long, made_more, made_all}
-use borrow.Author.Rules.{rules}
+use Rattle.cipher.proofs.Running.{Made}
 use Rattle.cipher.proofs.lanes.run_forward.Given as goal
 
 abbrev pub invariant-loop-i : goal.invariant-loop-i

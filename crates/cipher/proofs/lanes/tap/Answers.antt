@@ -4,7 +4,6 @@ use mathlib.Core.Path.{ap, ◌∙◌}
 use native.Mathlib.Omega.{arith}
 use Rattle.words.specs.Bytes.{littles}
 use Rattle.cipher.proofs.Halves.{cells_at}
-use borrow.Author.Rules.{rules}
 use Rattle.cipher.proofs.lanes.tap.Goals as goal
 
 pub returns : goal.returns

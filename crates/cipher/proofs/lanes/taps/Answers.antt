@@ -1,5 +1,5 @@
 -- `cipher::lanes::taps` meets its contract: after i turns the registers are i steps on, and the lanes have the taps of those i steps.
-use Prim.Native.Nat.{ℕ, ◌-◌, ◌≤◌}
+use Prim.Native.Nat.{ℕ}
 use mathlib.Core.Path.{◌≡◌, ap, subst, ◌∙◌}
 use native.Mathlib.Omega.{arith}
 use Rattle.lfsr.specs.Machine.{lfsr_of}

@@ -1,12 +1,8 @@
 -- `cipher::lanes::taps` meets its contract: after i turns the registers are i steps on, and the lanes have the taps of those i steps.
-use Prim.Native.Nat.{ℕ, ◌-◌, ◌≤◌}
-use mathlib.Core.Path.{◌≡◌, ap, subst, ◌∙◌}
-use native.Mathlib.Omega.{arith}
+use Prim.Native.Nat.{◌-◌, ◌≤◌}
+use mathlib.Core.Path.{◌≡◌}
 use Rattle.lfsr.specs.Machine.{lfsr_of}
-use Rattle.lfsr.proofs.Typed.{every_lfsr}
 use Rattle.cipher.specs.Inner.{clocked, Tapped}
-use Rattle.cipher.proofs.Standing.{tapped_none, tapped_more, clocked_none, clocked_more}
-use borrow.Author.Rules.{rules}
 use Rattle.cipher.proofs.lanes.taps.Given as goal
 
 abbrev pub invariant-loop-i : goal.invariant-loop-i
