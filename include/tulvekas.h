@@ -1,6 +1,6 @@
 /* Tulvekas for C and everything that calls C: SNOW-V sealing of guest pages. This page is the manual.
  *
- * For Linux on x86-64, and for no other system: link with libtulvekas.a, which `rt staticlib tulvekas` writes to target/staticlib/.
+ * For Linux on x86-64, and for no other system: link with libtulvekas.a, which `tools/staticlib` writes to target/staticlib/.
  *
  * How to read it
  *   - A slice is a pointer and a length in bytes. One that is only read is `const`. A pointer whose length is 0 is never used and may be NULL;

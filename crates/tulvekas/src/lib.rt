@@ -61,8 +61,7 @@ fn short_tag(key: &[u8], iv: &[u8], ad: &[u8], text: &[u8]) -> u64
 }
 
 // Seals a page: the ciphertext, as many bytes as the text has, and the tag, 16 bytes. Refused: 1, 2, 3, 4 for either buffer.
-#[unsafe(no_mangle)]
-pub extern "C" fn tulvekas_seal(
+pub fn tulvekas_seal(
     key: &[u8],
     iv: &[u8],
     ad: &[u8],
@@ -88,8 +87,7 @@ pub extern "C" fn tulvekas_seal(
 }
 
 // Opens a page, if its tag is the right one, and writes no byte of the text before that is known. Refused: 1, 2, 10, 3, 4, 5.
-#[unsafe(no_mangle)]
-pub extern "C" fn tulvekas_open(
+pub fn tulvekas_open(
     key: &[u8],
     iv: &[u8],
     ad: &[u8],
@@ -106,8 +104,7 @@ pub extern "C" fn tulvekas_open(
 // ---- page files: document 02's stay books
 
 // Seals page `page` of a stay into its place of the file. Refused: 1, 2 for a stay that is not 12 bytes, 3 for a text over 474, 12, 13.
-#[unsafe(no_mangle)]
-pub extern "C" fn tulvekas_file_seal(
+pub fn tulvekas_file_seal(
     key: &[u8],
     stay: &[u8],
     page: u32,
@@ -124,8 +121,7 @@ pub extern "C" fn tulvekas_file_seal(
 
 // Opens page `page` of a stay, and writes no byte before nothing is refused: its text, and how many bytes that has, 8 bytes low byte first. Refused: 1, 2
 // for a stay that is not 12 bytes, 13, 14, 4, 5, 13 for padding that is not zero, 4 for the length's buffer.
-#[unsafe(no_mangle)]
-pub extern "C" fn tulvekas_file_open(
+pub fn tulvekas_file_open(
     key: &[u8],
     stay: &[u8],
     page: u32,
@@ -156,13 +152,7 @@ pub extern "C" fn tulvekas_file_open(
 
 // Stores a stay's key, sealed under the season's key, in the first empty block of the store. Refused: 1 for either key, 2, 8, 16 for a number that is there, 4
 // where no block is empty.
-#[unsafe(no_mangle)]
-pub extern "C" fn tulvekas_keys_store(
-    key: &[u8],
-    iv: &[u8],
-    stay_key: &[u8],
-    store: &mut [u8],
-) -> u64
+pub fn tulvekas_keys_store(key: &[u8], iv: &[u8], stay_key: &[u8], store: &mut [u8]) -> u64
     ensures answer { result ≡ store_number key.now iv.now stay_key.now store.old }
     ensures store { store.new ≡ store_after key.now iv.now stay_key.now store.old }
 {
@@ -170,8 +160,7 @@ pub extern "C" fn tulvekas_keys_store(
 }
 
 // Fetches a stay's key, 32 bytes. Refused: 1, 2, 8, 17 for a number that is absent or erased, 5, 4.
-#[unsafe(no_mangle)]
-pub extern "C" fn tulvekas_keys_fetch(key: &[u8], iv: &[u8], store: &[u8], out: &mut [u8]) -> u64
+pub fn tulvekas_keys_fetch(key: &[u8], iv: &[u8], store: &[u8], out: &mut [u8]) -> u64
     ensures answer { result ≡ keys_fetch_answer key.now iv.now store.now out.old }
     ensures out { out.new ≡ keys_fetch_writes key.now iv.now store.now out.old }
 {
@@ -189,8 +178,7 @@ pub extern "C" fn tulvekas_keys_fetch(key: &[u8], iv: &[u8], store: &[u8], out: 
 }
 
 // Erases a stay's key; it takes none. Refused: 2, 8, 17 for a number that is absent or erased.
-#[unsafe(no_mangle)]
-pub extern "C" fn tulvekas_keys_erase(iv: &[u8], store: &mut [u8]) -> u64
+pub fn tulvekas_keys_erase(iv: &[u8], store: &mut [u8]) -> u64
     ensures answer { result ≡ erase_number iv.now store.old }
     ensures store { store.new ≡ erase_after iv.now store.old }
 {
@@ -200,8 +188,7 @@ pub extern "C" fn tulvekas_keys_erase(iv: &[u8], store: &mut [u8]) -> u64
 // ---- sealing by pieces
 
 // Begins a session, in the front 240 bytes of the buffer. Refused: 1, 2, 4.
-#[unsafe(no_mangle)]
-pub extern "C" fn tulvekas_begin(key: &[u8], iv: &[u8], session: &mut [u8]) -> u64
+pub fn tulvekas_begin(key: &[u8], iv: &[u8], session: &mut [u8]) -> u64
     ensures answer { result ≡ begin_answer key.now iv.now session.old }
     ensures session { BeginLeaves key.now iv.now session.old session.new }
 {
@@ -219,8 +206,7 @@ pub extern "C" fn tulvekas_begin(key: &[u8], iv: &[u8], session: &mut [u8]) -> u
 }
 
 // Takes a piece of associated data. Refused: 8 for a session that is not 240 bytes, 7, 3.
-#[unsafe(no_mangle)]
-pub extern "C" fn tulvekas_data(session: &mut [u8], piece: &[u8]) -> u64
+pub fn tulvekas_data(session: &mut [u8], piece: &[u8]) -> u64
     ensures answer { result ≡ data_answer session.old piece.now }
     ensures session { DataLeaves session.old piece.now session.new }
 {
@@ -238,8 +224,7 @@ pub extern "C" fn tulvekas_data(session: &mut [u8], piece: &[u8]) -> u64
 }
 
 // Takes a piece of text and writes as many bytes of ciphertext. Refused: 8 for a session that is not 240 bytes, 7, 3, 9, 4.
-#[unsafe(no_mangle)]
-pub extern "C" fn tulvekas_text(session: &mut [u8], piece: &[u8], out: &mut [u8]) -> u64
+pub fn tulvekas_text(session: &mut [u8], piece: &[u8], out: &mut [u8]) -> u64
     ensures answer { result ≡ text_answer session.old piece.now out.old }
     ensures session { TextLeaves session.old piece.now out.old session.new }
     ensures out { out.new ≡ text_writes session.old piece.now out.old }
@@ -258,8 +243,7 @@ pub extern "C" fn tulvekas_text(session: &mut [u8], piece: &[u8], out: &mut [u8]
 }
 
 // Ends a session and gives its tag and its IV. Refused: 8 for a session that is not 240 bytes, 7, 4 for either buffer.
-#[unsafe(no_mangle)]
-pub extern "C" fn tulvekas_finish(session: &mut [u8], tag: &mut [u8], iv: &mut [u8]) -> u64
+pub fn tulvekas_finish(session: &mut [u8], tag: &mut [u8], iv: &mut [u8]) -> u64
     ensures answer { result ≡ finish_answer session.old tag.old iv.old }
     ensures session { FinishLeaves session.old tag.old iv.old session.new }
     ensures tag { tag.new ≡ finish_writes_tag session.old tag.old iv.old }
@@ -291,8 +275,7 @@ pub extern "C" fn tulvekas_finish(session: &mut [u8], tag: &mut [u8], iv: &mut [
 // ---- suspend and resume: document 01's park and take up
 
 // Writes a session's block of 512 bytes; the session is only read. Refused: 8 for a session that is not 240 bytes, 7, 4.
-#[unsafe(no_mangle)]
-pub extern "C" fn tulvekas_suspend(session: &[u8], block: &mut [u8]) -> u64
+pub fn tulvekas_suspend(session: &[u8], block: &mut [u8]) -> u64
     ensures answer { result ≡ suspend_answer session.now block.old }
     ensures block { block.new ≡ suspend_writes session.now block.old }
 {
@@ -304,13 +287,7 @@ pub extern "C" fn tulvekas_suspend(session: &[u8], block: &mut [u8]) -> u64
 }
 
 // Gives the session that a block was written for, and its IV. Refused: 1, 8, 6, 4 for either buffer.
-#[unsafe(no_mangle)]
-pub extern "C" fn tulvekas_resume(
-    key: &[u8],
-    block: &[u8],
-    session: &mut [u8],
-    iv: &mut [u8],
-) -> u64
+pub fn tulvekas_resume(key: &[u8], block: &[u8], session: &mut [u8], iv: &mut [u8]) -> u64
     ensures answer { result ≡ resume_answer key.now block.now session.old iv.old }
     ensures session { ResumeLeaves key.now block.now session.old iv.old session.new }
     ensures iv { iv.new ≡ resume_writes key.now block.now session.old iv.old }
@@ -336,8 +313,7 @@ pub extern "C" fn tulvekas_resume(
 // ---- the cipher
 
 // Fills a buffer with keystream from block 0 on, as many whole blocks as fit. The mode is 0 for plain, else sealed. Refused: 1, 2, 9.
-#[unsafe(no_mangle)]
-pub extern "C" fn tulvekas_keystream(key: &[u8], iv: &[u8], sealed: u64, out: &mut [u8]) -> u64
+pub fn tulvekas_keystream(key: &[u8], iv: &[u8], sealed: u64, out: &mut [u8]) -> u64
     ensures answer { result ≡ keystream_answer key.now iv.now out.old }
     ensures out { out.new ≡ keystream_writes key.now iv.now sealed out.old }
 {
@@ -358,8 +334,7 @@ pub extern "C" fn tulvekas_keystream(key: &[u8], iv: &[u8], sealed: u64, out: &m
 }
 
 // Starts: the state, its count 0, in the front 120 bytes of the buffer. The mode is 0 for plain, else sealed. Refused: 1, 2, 4.
-#[unsafe(no_mangle)]
-pub extern "C" fn tulvekas_start(key: &[u8], iv: &[u8], sealed: u64, state: &mut [u8]) -> u64
+pub fn tulvekas_start(key: &[u8], iv: &[u8], sealed: u64, state: &mut [u8]) -> u64
     ensures answer { result ≡ start_answer key.now iv.now state.old }
     ensures state { StartLeaves key.now iv.now sealed state.old state.new }
 {
@@ -378,8 +353,7 @@ pub extern "C" fn tulvekas_start(key: &[u8], iv: &[u8], sealed: u64, state: &mut
 
 // Runs a state n blocks on, or back unless `back` is 0: their blocks go to the front of the output in the order made. Refused: 8 for a state that is not
 // 120 bytes, 9, 15, 4.
-#[unsafe(no_mangle)]
-pub extern "C" fn tulvekas_run(state: &mut [u8], n: u64, back: u64, out: &mut [u8]) -> u64
+pub fn tulvekas_run(state: &mut [u8], n: u64, back: u64, out: &mut [u8]) -> u64
     ensures answer { result ≡ run_answer state.old n back out.old }
     ensures state { RunLeaves state.old n back out.old state.new }
     ensures out { out.new ≡ run_writes state.old n back out.old }
@@ -399,8 +373,7 @@ pub extern "C" fn tulvekas_run(state: &mut [u8], n: u64, back: u64, out: &mut [u
 }
 
 // The state of a suspended block, with its count, in the front 120 bytes of the buffer. Refused: 8 for a block that breaks a layout rule, 4.
-#[unsafe(no_mangle)]
-pub extern "C" fn tulvekas_state_of(block: &[u8], state: &mut [u8]) -> u64
+pub fn tulvekas_state_of(block: &[u8], state: &mut [u8]) -> u64
     ensures answer { result ≡ state_of_answer block.now state.old }
     ensures state { StateOfLeaves block.now state.old state.new }
 {
@@ -417,8 +390,7 @@ pub extern "C" fn tulvekas_state_of(block: &[u8], state: &mut [u8]) -> u64
 
 // Document 01's trace, from a state at its own count: the IV, and one byte that becomes 0 for plain mode and 1 for sealed. Refused: 1, 8 for a state that
 // is not 120 bytes, 9, 6, 4 for either buffer.
-#[unsafe(no_mangle)]
-pub extern "C" fn tulvekas_trace(state: &[u8], key: &[u8], iv: &mut [u8], sealed: &mut [u8]) -> u64
+pub fn tulvekas_trace(state: &[u8], key: &[u8], iv: &mut [u8], sealed: &mut [u8]) -> u64
     ensures answer { result ≡ trace_answer (trace_of_bytes state.now key.now) iv.old sealed.old }
     ensures iv { iv.new ≡ trace_iv (trace_of_bytes state.now key.now) iv.old sealed.old }
     ensures sealed { sealed.new ≡ trace_sealed (trace_of_bytes state.now key.now) iv.old sealed.old }
@@ -454,8 +426,7 @@ pub extern "C" fn tulvekas_trace(state: &[u8], key: &[u8], iv: &mut [u8], sealed
 // The least count from the lowest to the highest at which an IV and mode lead to a dump of 112 bytes: the count, 8 bytes low byte first, the IV, one byte that
 // becomes 0 for plain mode and 1 for sealed, and the steps walked, 8 bytes low byte first. Refused: 1, 8 for a dump that is not 112 bytes, 9, 18, 6, which
 // writes the steps where they have room, 4 for any of the four buffers.
-#[unsafe(no_mangle)]
-pub extern "C" fn tulvekas_search(
+pub fn tulvekas_search(
     dump: &[u8],
     key: &[u8],
     lowest: u64,
@@ -506,8 +477,7 @@ pub extern "C" fn tulvekas_search(
 // ---- the scheduler: document 02's desk
 
 // Makes a scheduler with nobody in it, 8,208 bytes. Refused: 4.
-#[unsafe(no_mangle)]
-pub extern "C" fn tulvekas_schedule_empty(scheduler: &mut [u8]) -> u64
+pub fn tulvekas_schedule_empty(scheduler: &mut [u8]) -> u64
     ensures answer { result ≡ empty_answer scheduler.old }
     ensures scheduler { scheduler.new ≡ empty_writes scheduler.old }
 {
@@ -516,13 +486,7 @@ pub extern "C" fn tulvekas_schedule_empty(scheduler: &mut [u8]) -> u64
 
 // A stay joins, with as many bytes to seal as `length` says. Refused: 8 for a scheduler that is not 8,208 bytes, 1, 2, 3 for a length that is not 1 to 1,048,576, 19 where 32
 // stays are there, 16 where that IV is.
-#[unsafe(no_mangle)]
-pub extern "C" fn tulvekas_schedule_join(
-    scheduler: &mut [u8],
-    key: &[u8],
-    iv: &[u8],
-    length: u64,
-) -> u64
+pub fn tulvekas_schedule_join(scheduler: &mut [u8], key: &[u8], iv: &[u8], length: u64) -> u64
     ensures answer { result ≡ join_answer scheduler.old key.now iv.now length }
     ensures scheduler { JoinLeaves scheduler.old key.now iv.now length scheduler.new }
 {
@@ -531,8 +495,7 @@ pub extern "C" fn tulvekas_schedule_join(
 
 // Says who is next: one byte that is 1 where anybody is there, and then the IV and the length of the piece that is due, 8 bytes low byte first. Refused: 8, 4 for any of the three
 // buffers.
-#[unsafe(no_mangle)]
-pub extern "C" fn tulvekas_schedule_next(
+pub fn tulvekas_schedule_next(
     scheduler: &[u8],
     found: &mut [u8],
     iv: &mut [u8],
@@ -549,8 +512,7 @@ pub extern "C" fn tulvekas_schedule_next(
 // Gives a turn: seals the piece of the stay that comes next, and writes the IV of that stay, the number of the turn, 8 bytes low byte first, one byte that is 1 where the stay has
 // finished and left, and its tag then. Where nobody is there, number and flag are 0, and nothing else is written. Refused: 8; where somebody is there 9 for a turn past 2^62, 3 for a
 // piece of another length than the one due, 4 (before it 7, 3 or 9 of a session that a caller made up); last 4 for any of the four other buffers.
-#[unsafe(no_mangle)]
-pub extern "C" fn tulvekas_schedule_turn(
+pub fn tulvekas_schedule_turn(
     scheduler: &mut [u8],
     piece: &[u8],
     out: &mut [u8],
@@ -573,8 +535,7 @@ pub extern "C" fn tulvekas_schedule_turn(
 // ---- dates and keeping
 
 // The date of a day, in four bytes: the year, low byte first, the month, the day. Days count from 1 January 2000 as 0. Refused: 12 for a day after 73,048, 4.
-#[unsafe(no_mangle)]
-pub extern "C" fn tulvekas_date(day: u64, date: &mut [u8]) -> u64
+pub fn tulvekas_date(day: u64, date: &mut [u8]) -> u64
     ensures answer { result ≡ reply_answer (date_reply (to_date day)) date.old }
     ensures date { date.new ≡ reply_writes (date_reply (to_date day)) date.old }
 {
@@ -583,8 +544,7 @@ pub extern "C" fn tulvekas_date(day: u64, date: &mut [u8]) -> u64
 }
 
 // The day of a date, in 8 bytes, low byte first. Refused: 12 for a date that the calendar lacks or outside the years 2000 to 2199, 4.
-#[unsafe(no_mangle)]
-pub extern "C" fn tulvekas_day(year: u64, month: u64, day: u64, number: &mut [u8]) -> u64
+pub fn tulvekas_day(year: u64, month: u64, day: u64, number: &mut [u8]) -> u64
     ensures answer { result ≡ reply_answer (day_reply (to_day (Calendar.date year month day))) number.old }
     ensures number { number.new ≡ reply_writes (day_reply (to_day (Calendar.date year month day))) number.old }
 {
@@ -596,8 +556,7 @@ pub extern "C" fn tulvekas_day(year: u64, month: u64, day: u64, number: &mut [u8
 }
 
 // Whether a page is kept today, by the day of its departure: one byte that becomes 1 if it is, else 0. Refused: 12, 4.
-#[unsafe(no_mangle)]
-pub extern "C" fn tulvekas_kept(today: u64, departure: u64, kept: &mut [u8]) -> u64
+pub fn tulvekas_kept(today: u64, departure: u64, kept: &mut [u8]) -> u64
     ensures answer { result ≡ reply_answer (kept_reply (keeping today departure)) kept.old }
     ensures kept { kept.new ≡ reply_writes (kept_reply (keeping today departure)) kept.old }
 {
@@ -610,8 +569,7 @@ pub extern "C" fn tulvekas_kept(today: u64, departure: u64, kept: &mut [u8]) -> 
 }
 
 // The last date on which a page is kept, by the day of its departure, in four bytes as tulvekas_date writes them. Refused: 12, 4.
-#[unsafe(no_mangle)]
-pub extern "C" fn tulvekas_kept_until(departure: u64, date: &mut [u8]) -> u64
+pub fn tulvekas_kept_until(departure: u64, date: &mut [u8]) -> u64
     ensures answer { result ≡ reply_answer (date_reply (kept_until departure)) date.old }
     ensures date { date.new ≡ reply_writes (date_reply (kept_until departure)) date.old }
 {

@@ -1,0 +1,377 @@
+// The static library for C: each call of the crate `tulvekas` under its own name, with its clauses. A crate is a library for Rattle or for C, not both, so these
+// exports stand in a crate of their own, and each hands on what it was handed. include/tulvekas.h is the manual.
+#![tactic(auto)]
+
+ghost use Rattle.std.specs.Prelude.{◌≡◌};
+ghost use Rattle.page.specs.Calls.{open_number, open_out};
+ghost use Rattle.page_file.specs.Calls as Files;
+ghost use Rattle.key_store.specs.Calls.{store_number, store_after, erase_number, erase_after};
+ghost use Rattle.calendar.specs.Calendar;
+ghost use Rattle.calendar.specs.Calls.{to_date, to_day};
+ghost use Rattle.retention.specs.Keeping.{keeping, kept_until};
+ghost use Rattle.bytes_c.specs.Replies.{reply_answer, reply_writes, date_reply};
+ghost use Rattle.tulvekas.specs.Pages.{seal_answer, seal_writes, seal_writes_tag};
+ghost use Rattle.tulvekas.specs.Files.{file_open_answer, file_open_writes, file_open_length};
+ghost use Rattle.tulvekas.specs.Keys.{keys_fetch_answer, keys_fetch_writes};
+ghost use Rattle.tulvekas.specs.Sessions.{begin_answer, BeginLeaves, data_answer, DataLeaves, text_answer, TextLeaves, text_writes, finish_answer, FinishLeaves, finish_writes_tag, finish_writes_iv, suspend_answer, suspend_writes, resume_answer, ResumeLeaves, resume_writes};
+ghost use Rattle.tulvekas.specs.Cipher.{keystream_answer, keystream_writes, start_answer, StartLeaves, run_answer, RunLeaves, run_writes, state_of_answer, StateOfLeaves, trace_of_bytes, trace_answer, trace_iv, trace_sealed};
+ghost use Rattle.search.specs.Counts;
+ghost use Rattle.tulvekas.specs.Search.{search_answer, search_count, search_iv, search_sealed, search_steps};
+ghost use Rattle.tulvekas.specs.Dates.{day_reply, kept_reply};
+ghost use Rattle.scheduler.specs.Bytes.{empty_answer, empty_writes, join_answer, JoinLeaves};
+ghost use Rattle.scheduler_c.specs.Calls.{asked_answer, asked_found, asked_iv, asked_due, turned_answer, turned_out, turned_iv, turned_turn, turned_done, turned_tag, TurnedLeaves};
+
+// ---- whole pages
+
+// Seals a page: the ciphertext, as many bytes as the text has, and the tag, 16 bytes. Refused: 1, 2, 3, 4 for either buffer.
+#[unsafe(no_mangle)]
+pub extern "C" fn tulvekas_seal(
+    key: &[u8],
+    iv: &[u8],
+    ad: &[u8],
+    text: &[u8],
+    out: &mut [u8],
+    tag: &mut [u8],
+) -> u64
+    ensures answer { result ≡ seal_answer key.now iv.now ad.now text.now out.old tag.old }
+    ensures out { out.new ≡ seal_writes key.now iv.now ad.now text.now out.old tag.old }
+    ensures tag { tag.new ≡ seal_writes_tag key.now iv.now ad.now text.now out.old tag.old }
+{
+    tulvekas::tulvekas_seal(key, iv, ad, text, out, tag)
+}
+
+// Opens a page, if its tag is the right one, and writes no byte of the text before that is known. Refused: 1, 2, 10, 3, 4, 5.
+#[unsafe(no_mangle)]
+pub extern "C" fn tulvekas_open(
+    key: &[u8],
+    iv: &[u8],
+    ad: &[u8],
+    cipher: &[u8],
+    tag: &[u8],
+    out: &mut [u8],
+) -> u64
+    ensures answer { result ≡ open_number key.now iv.now ad.now cipher.now tag.now out.old }
+    ensures out { out.new ≡ open_out key.now iv.now ad.now cipher.now tag.now out.old }
+{
+    tulvekas::tulvekas_open(key, iv, ad, cipher, tag, out)
+}
+
+// ---- page files: document 02's stay books
+
+// Seals page `page` of a stay into its place of the file. Refused: 1, 2 for a stay that is not 12 bytes, 3 for a text over 474, 12, 13.
+#[unsafe(no_mangle)]
+pub extern "C" fn tulvekas_file_seal(
+    key: &[u8],
+    stay: &[u8],
+    page: u32,
+    day: u64,
+    text: &[u8],
+    place: u64,
+    file: &mut [u8],
+) -> u64
+    ensures answer { result ≡ Files.seal_number key.now stay.now day text.now file.old place }
+    ensures file { file.new ≡ Files.seal_file key.now stay.now page day text.now file.old place }
+{
+    tulvekas::tulvekas_file_seal(key, stay, page, day, text, place, file)
+}
+
+// Opens page `page` of a stay, and writes no byte before nothing is refused: its text, and how many bytes that has, 8 bytes low byte first. Refused: 1, 2
+// for a stay that is not 12 bytes, 13, 14, 4, 5, 13 for padding that is not zero, 4 for the length's buffer.
+#[unsafe(no_mangle)]
+pub extern "C" fn tulvekas_file_open(
+    key: &[u8],
+    stay: &[u8],
+    page: u32,
+    file: &[u8],
+    out: &mut [u8],
+    length: &mut [u8],
+) -> u64
+    ensures answer { result ≡ file_open_answer key.now stay.now page file.now out.old length.old }
+    ensures out { out.new ≡ file_open_writes key.now stay.now page file.now out.old length.old }
+    ensures length { length.new ≡ file_open_length key.now stay.now page file.now out.old length.old }
+{
+    tulvekas::tulvekas_file_open(key, stay, page, file, out, length)
+}
+
+// ---- key stores: document 02's shelves
+
+// Stores a stay's key, sealed under the season's key, in the first empty block of the store. Refused: 1 for either key, 2, 8, 16 for a number that is there, 4
+// where no block is empty.
+#[unsafe(no_mangle)]
+pub extern "C" fn tulvekas_keys_store(
+    key: &[u8],
+    iv: &[u8],
+    stay_key: &[u8],
+    store: &mut [u8],
+) -> u64
+    ensures answer { result ≡ store_number key.now iv.now stay_key.now store.old }
+    ensures store { store.new ≡ store_after key.now iv.now stay_key.now store.old }
+{
+    tulvekas::tulvekas_keys_store(key, iv, stay_key, store)
+}
+
+// Fetches a stay's key, 32 bytes. Refused: 1, 2, 8, 17 for a number that is absent or erased, 5, 4.
+#[unsafe(no_mangle)]
+pub extern "C" fn tulvekas_keys_fetch(key: &[u8], iv: &[u8], store: &[u8], out: &mut [u8]) -> u64
+    ensures answer { result ≡ keys_fetch_answer key.now iv.now store.now out.old }
+    ensures out { out.new ≡ keys_fetch_writes key.now iv.now store.now out.old }
+{
+    tulvekas::tulvekas_keys_fetch(key, iv, store, out)
+}
+
+// Erases a stay's key; it takes none. Refused: 2, 8, 17 for a number that is absent or erased.
+#[unsafe(no_mangle)]
+pub extern "C" fn tulvekas_keys_erase(iv: &[u8], store: &mut [u8]) -> u64
+    ensures answer { result ≡ erase_number iv.now store.old }
+    ensures store { store.new ≡ erase_after iv.now store.old }
+{
+    tulvekas::tulvekas_keys_erase(iv, store)
+}
+
+// ---- sealing by pieces
+
+// Begins a session, in the front 240 bytes of the buffer. Refused: 1, 2, 4.
+#[unsafe(no_mangle)]
+pub extern "C" fn tulvekas_begin(key: &[u8], iv: &[u8], session: &mut [u8]) -> u64
+    ensures answer { result ≡ begin_answer key.now iv.now session.old }
+    ensures session { BeginLeaves key.now iv.now session.old session.new }
+{
+    tulvekas::tulvekas_begin(key, iv, session)
+}
+
+// Takes a piece of associated data. Refused: 8 for a session that is not 240 bytes, 7, 3.
+#[unsafe(no_mangle)]
+pub extern "C" fn tulvekas_data(session: &mut [u8], piece: &[u8]) -> u64
+    ensures answer { result ≡ data_answer session.old piece.now }
+    ensures session { DataLeaves session.old piece.now session.new }
+{
+    tulvekas::tulvekas_data(session, piece)
+}
+
+// Takes a piece of text and writes as many bytes of ciphertext. Refused: 8 for a session that is not 240 bytes, 7, 3, 9, 4.
+#[unsafe(no_mangle)]
+pub extern "C" fn tulvekas_text(session: &mut [u8], piece: &[u8], out: &mut [u8]) -> u64
+    ensures answer { result ≡ text_answer session.old piece.now out.old }
+    ensures session { TextLeaves session.old piece.now out.old session.new }
+    ensures out { out.new ≡ text_writes session.old piece.now out.old }
+{
+    tulvekas::tulvekas_text(session, piece, out)
+}
+
+// Ends a session and gives its tag and its IV. Refused: 8 for a session that is not 240 bytes, 7, 4 for either buffer.
+#[unsafe(no_mangle)]
+pub extern "C" fn tulvekas_finish(session: &mut [u8], tag: &mut [u8], iv: &mut [u8]) -> u64
+    ensures answer { result ≡ finish_answer session.old tag.old iv.old }
+    ensures session { FinishLeaves session.old tag.old iv.old session.new }
+    ensures tag { tag.new ≡ finish_writes_tag session.old tag.old iv.old }
+    ensures iv { iv.new ≡ finish_writes_iv session.old tag.old iv.old }
+{
+    tulvekas::tulvekas_finish(session, tag, iv)
+}
+
+// ---- suspend and resume: document 01's park and take up
+
+// Writes a session's block of 512 bytes; the session is only read. Refused: 8 for a session that is not 240 bytes, 7, 4.
+#[unsafe(no_mangle)]
+pub extern "C" fn tulvekas_suspend(session: &[u8], block: &mut [u8]) -> u64
+    ensures answer { result ≡ suspend_answer session.now block.old }
+    ensures block { block.new ≡ suspend_writes session.now block.old }
+{
+    tulvekas::tulvekas_suspend(session, block)
+}
+
+// Gives the session that a block was written for, and its IV. Refused: 1, 8, 6, 4 for either buffer.
+#[unsafe(no_mangle)]
+pub extern "C" fn tulvekas_resume(
+    key: &[u8],
+    block: &[u8],
+    session: &mut [u8],
+    iv: &mut [u8],
+) -> u64
+    ensures answer { result ≡ resume_answer key.now block.now session.old iv.old }
+    ensures session { ResumeLeaves key.now block.now session.old iv.old session.new }
+    ensures iv { iv.new ≡ resume_writes key.now block.now session.old iv.old }
+{
+    tulvekas::tulvekas_resume(key, block, session, iv)
+}
+
+// ---- the cipher
+
+// Fills a buffer with keystream from block 0 on, as many whole blocks as fit. The mode is 0 for plain, else sealed. Refused: 1, 2, 9.
+#[unsafe(no_mangle)]
+pub extern "C" fn tulvekas_keystream(key: &[u8], iv: &[u8], sealed: u64, out: &mut [u8]) -> u64
+    ensures answer { result ≡ keystream_answer key.now iv.now out.old }
+    ensures out { out.new ≡ keystream_writes key.now iv.now sealed out.old }
+{
+    tulvekas::tulvekas_keystream(key, iv, sealed, out)
+}
+
+// Starts: the state, its count 0, in the front 120 bytes of the buffer. The mode is 0 for plain, else sealed. Refused: 1, 2, 4.
+#[unsafe(no_mangle)]
+pub extern "C" fn tulvekas_start(key: &[u8], iv: &[u8], sealed: u64, state: &mut [u8]) -> u64
+    ensures answer { result ≡ start_answer key.now iv.now state.old }
+    ensures state { StartLeaves key.now iv.now sealed state.old state.new }
+{
+    tulvekas::tulvekas_start(key, iv, sealed, state)
+}
+
+// Runs a state n blocks on, or back unless `back` is 0: their blocks go to the front of the output in the order made. Refused: 8 for a state that is not
+// 120 bytes, 9, 15, 4.
+#[unsafe(no_mangle)]
+pub extern "C" fn tulvekas_run(state: &mut [u8], n: u64, back: u64, out: &mut [u8]) -> u64
+    ensures answer { result ≡ run_answer state.old n back out.old }
+    ensures state { RunLeaves state.old n back out.old state.new }
+    ensures out { out.new ≡ run_writes state.old n back out.old }
+{
+    tulvekas::tulvekas_run(state, n, back, out)
+}
+
+// The state of a suspended block, with its count, in the front 120 bytes of the buffer. Refused: 8 for a block that breaks a layout rule, 4.
+#[unsafe(no_mangle)]
+pub extern "C" fn tulvekas_state_of(block: &[u8], state: &mut [u8]) -> u64
+    ensures answer { result ≡ state_of_answer block.now state.old }
+    ensures state { StateOfLeaves block.now state.old state.new }
+{
+    tulvekas::tulvekas_state_of(block, state)
+}
+
+// Document 01's trace, from a state at its own count: the IV, and one byte that becomes 0 for plain mode and 1 for sealed. Refused: 1, 8 for a state that
+// is not 120 bytes, 9, 6, 4 for either buffer.
+#[unsafe(no_mangle)]
+pub extern "C" fn tulvekas_trace(state: &[u8], key: &[u8], iv: &mut [u8], sealed: &mut [u8]) -> u64
+    ensures answer { result ≡ trace_answer (trace_of_bytes state.now key.now) iv.old sealed.old }
+    ensures iv { iv.new ≡ trace_iv (trace_of_bytes state.now key.now) iv.old sealed.old }
+    ensures sealed { sealed.new ≡ trace_sealed (trace_of_bytes state.now key.now) iv.old sealed.old }
+{
+    tulvekas::tulvekas_trace(state, key, iv, sealed)
+}
+
+// ---- the search for a count that is only roughly known
+
+// The least count from the lowest to the highest at which an IV and mode lead to a dump of 112 bytes: the count, 8 bytes low byte first, the IV, one byte that
+// becomes 0 for plain mode and 1 for sealed, and the steps walked, 8 bytes low byte first. Refused: 1, 8 for a dump that is not 112 bytes, 9, 18, 6, which
+// writes the steps where they have room, 4 for any of the four buffers.
+#[unsafe(no_mangle)]
+pub extern "C" fn tulvekas_search(
+    dump: &[u8],
+    key: &[u8],
+    lowest: u64,
+    highest: u64,
+    count: &mut [u8],
+    iv: &mut [u8],
+    sealed: &mut [u8],
+    steps: &mut [u8],
+) -> u64
+    ensures answer { result ≡ search_answer (Counts.search dump.now key.now lowest highest) count.old iv.old sealed.old steps.old }
+    ensures count { count.new ≡ search_count (Counts.search dump.now key.now lowest highest) count.old iv.old sealed.old steps.old }
+    ensures iv { iv.new ≡ search_iv (Counts.search dump.now key.now lowest highest) count.old iv.old sealed.old steps.old }
+    ensures sealed { sealed.new ≡ search_sealed (Counts.search dump.now key.now lowest highest) count.old iv.old sealed.old steps.old }
+    ensures steps { steps.new ≡ search_steps (Counts.search dump.now key.now lowest highest) count.old iv.old sealed.old steps.old }
+{
+    tulvekas::tulvekas_search(dump, key, lowest, highest, count, iv, sealed, steps)
+}
+
+// ---- the scheduler: document 02's desk
+
+// Makes a scheduler with nobody in it, 8,208 bytes. Refused: 4.
+#[unsafe(no_mangle)]
+pub extern "C" fn tulvekas_schedule_empty(scheduler: &mut [u8]) -> u64
+    ensures answer { result ≡ empty_answer scheduler.old }
+    ensures scheduler { scheduler.new ≡ empty_writes scheduler.old }
+{
+    tulvekas::tulvekas_schedule_empty(scheduler)
+}
+
+// A stay joins, with as many bytes to seal as `length` says. Refused: 8 for a scheduler that is not 8,208 bytes, 1, 2, 3 for a length that is not 1 to 1,048,576, 19 where 32
+// stays are there, 16 where that IV is.
+#[unsafe(no_mangle)]
+pub extern "C" fn tulvekas_schedule_join(
+    scheduler: &mut [u8],
+    key: &[u8],
+    iv: &[u8],
+    length: u64,
+) -> u64
+    ensures answer { result ≡ join_answer scheduler.old key.now iv.now length }
+    ensures scheduler { JoinLeaves scheduler.old key.now iv.now length scheduler.new }
+{
+    tulvekas::tulvekas_schedule_join(scheduler, key, iv, length)
+}
+
+// Says who is next: one byte that is 1 where anybody is there, and then the IV and the length of the piece that is due, 8 bytes low byte first. Refused: 8, 4 for any of the three
+// buffers.
+#[unsafe(no_mangle)]
+pub extern "C" fn tulvekas_schedule_next(
+    scheduler: &[u8],
+    found: &mut [u8],
+    iv: &mut [u8],
+    due: &mut [u8],
+) -> u64
+    ensures answer { result ≡ asked_answer scheduler.now found.old iv.old due.old }
+    ensures found { found.new ≡ asked_found scheduler.now found.old iv.old due.old }
+    ensures iv { iv.new ≡ asked_iv scheduler.now found.old iv.old due.old }
+    ensures due { due.new ≡ asked_due scheduler.now found.old iv.old due.old }
+{
+    tulvekas::tulvekas_schedule_next(scheduler, found, iv, due)
+}
+
+// Gives a turn: seals the piece of the stay that comes next, and writes the IV of that stay, the number of the turn, 8 bytes low byte first, one byte that is 1 where the stay has
+// finished and left, and its tag then. Where nobody is there, number and flag are 0, and nothing else is written. Refused: 8; where somebody is there 9 for a turn past 2^62, 3 for a
+// piece of another length than the one due, 4 (before it 7, 3 or 9 of a session that a caller made up); last 4 for any of the four other buffers.
+#[unsafe(no_mangle)]
+pub extern "C" fn tulvekas_schedule_turn(
+    scheduler: &mut [u8],
+    piece: &[u8],
+    out: &mut [u8],
+    iv: &mut [u8],
+    turn: &mut [u8],
+    done: &mut [u8],
+    tag: &mut [u8],
+) -> u64
+    ensures answer { result ≡ turned_answer scheduler.old piece.now out.old (record { iv = iv.entry.now; turn = turn.old; done = done.old; tag = tag.old }) }
+    ensures scheduler { TurnedLeaves scheduler.old piece.now out.old (record { iv = iv.entry.now; turn = turn.old; done = done.old; tag = tag.old }) scheduler.new }
+    ensures out { out.new ≡ turned_out scheduler.old piece.now out.old (record { iv = iv.entry.now; turn = turn.old; done = done.old; tag = tag.old }) }
+    ensures iv { iv.exit.now ≡ turned_iv scheduler.old piece.now out.old (record { iv = iv.entry.now; turn = turn.old; done = done.old; tag = tag.old }) }
+    ensures turn { turn.new ≡ turned_turn scheduler.old piece.now out.old (record { iv = iv.entry.now; turn = turn.old; done = done.old; tag = tag.old }) }
+    ensures done { done.new ≡ turned_done scheduler.old piece.now out.old (record { iv = iv.entry.now; turn = turn.old; done = done.old; tag = tag.old }) }
+    ensures tag { tag.new ≡ turned_tag scheduler.old piece.now out.old (record { iv = iv.entry.now; turn = turn.old; done = done.old; tag = tag.old }) }
+{
+    tulvekas::tulvekas_schedule_turn(scheduler, piece, out, iv, turn, done, tag)
+}
+
+// ---- dates and keeping
+
+// The date of a day, in four bytes: the year, low byte first, the month, the day. Days count from 1 January 2000 as 0. Refused: 12 for a day after 73,048, 4.
+#[unsafe(no_mangle)]
+pub extern "C" fn tulvekas_date(day: u64, date: &mut [u8]) -> u64
+    ensures answer { result ≡ reply_answer (date_reply (to_date day)) date.old }
+    ensures date { date.new ≡ reply_writes (date_reply (to_date day)) date.old }
+{
+    tulvekas::tulvekas_date(day, date)
+}
+
+// The day of a date, in 8 bytes, low byte first. Refused: 12 for a date that the calendar lacks or outside the years 2000 to 2199, 4.
+#[unsafe(no_mangle)]
+pub extern "C" fn tulvekas_day(year: u64, month: u64, day: u64, number: &mut [u8]) -> u64
+    ensures answer { result ≡ reply_answer (day_reply (to_day (Calendar.date year month day))) number.old }
+    ensures number { number.new ≡ reply_writes (day_reply (to_day (Calendar.date year month day))) number.old }
+{
+    tulvekas::tulvekas_day(year, month, day, number)
+}
+
+// Whether a page is kept today, by the day of its departure: one byte that becomes 1 if it is, else 0. Refused: 12, 4.
+#[unsafe(no_mangle)]
+pub extern "C" fn tulvekas_kept(today: u64, departure: u64, kept: &mut [u8]) -> u64
+    ensures answer { result ≡ reply_answer (kept_reply (keeping today departure)) kept.old }
+    ensures kept { kept.new ≡ reply_writes (kept_reply (keeping today departure)) kept.old }
+{
+    tulvekas::tulvekas_kept(today, departure, kept)
+}
+
+// The last date on which a page is kept, by the day of its departure, in four bytes as tulvekas_date writes them. Refused: 12, 4.
+#[unsafe(no_mangle)]
+pub extern "C" fn tulvekas_kept_until(departure: u64, date: &mut [u8]) -> u64
+    ensures answer { result ≡ reply_answer (date_reply (kept_until departure)) date.old }
+    ensures date { date.new ≡ reply_writes (date_reply (kept_until departure)) date.old }
+{
+    tulvekas::tulvekas_kept_until(departure, date)
+}
