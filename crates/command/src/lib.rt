@@ -122,8 +122,8 @@ fn four(input: &[u8]) -> Lines
 
 // The bytes that a well-formed line says, at the front of the output, and how many.
 fn decode(line: &[u8], out: &mut [u8]) -> usize
-    requires line_value { well_formed line.now ≡ true }
-    requires line_len_bound { length line.now ≤ 2 * length out.old }
+    requires formed { well_formed line.now ≡ true }
+    requires fits { length line.now ≤ 2 * length out.old }
     ensures out { out.new ≡ sets out.old 0 (Hex.bytes_of line.now) }
     ensures count { result ≡ length (Hex.bytes_of line.now) }
 {
