@@ -47,7 +47,14 @@ module _ (s : State) (z : s.count ≡ 0) where
   runs_lead : (c : Course) (rs : List Run) → Led c → Led (runs c rs)
   unfolding runs
   runs_lead c [] l = l
-  runs_lead c (r ∷ rs) l = runs_lead _ rs (run_leads c (length r.out.list) r.n l)
+  runs_lead c (r ∷ rs) l =
+      let len = length r.out.list in
+      runs_lead
+      (record {
+        state = run_state forward c.state len r.n;
+        sum = c.sum + granted (run_number forward c.state.count len r.n) r.n 0;
+      })
+      rs (run_leads c len r.n l)
 
 module _ (key iv : Bytes) (m : Mode) (rs : List Run) (e : start_number key.list iv.list ≡ 0) where
   abbrev first : State
