@@ -1,5 +1,5 @@
 -- Cases of document 02's S-2, in its order: what steps, runs and traces make of a state's count, at both ends of the counts and past the greatest.
-use Rattle.std.specs.Prelude.{ℕ, ◌-◌, ◌*◌, ◌^◌, ◌≡◌, Bool, List, [], ◌∷◌, replicate}
+use Rattle.std.specs.Prelude.{ℕ, ◌-◌, ◌*◌, ◌^◌, ◌≡◌, Bool, List, [], replicate}
 use Rattle.cipher.specs.Registers.{Registers}
 use Rattle.cipher.specs.Step.{z}
 use Rattle.cipher.specs.Back.{back}
