@@ -42,10 +42,8 @@ fn changed(x: &[u8], at: usize) -> [u8; 64]
     requires { length x.now ≤ 64 }
 {
     let mut y = [0u8; 64];
-    let mut i = 0;
-    while i < x.len() {
+    for i in 0..x.len() {
         y[i] = flipped_if(x[i], i == at);
-        i += 1;
     }
     y
 }
@@ -99,10 +97,8 @@ fn refused_everywhere(p: Part, key: &[u8], iv: &[u8], ad: &[u8], cipher: &[u8], 
 {
     let n = size(p, ad, cipher, tag);
     let mut all = true;
-    let mut at = 0;
-    while at < n {
+    for at in 0..n {
         all = all & refused_at(p, key, iv, ad, cipher, tag, at);
-        at += 1;
     }
     all
 }
