@@ -2,106 +2,97 @@
 use crate::report;
 use calendar::{Date, Dated, Numbered};
 use retention::Verdict;
+use std::io;
 
-fn verdict(today: u64, departure: u64) {
-    let v = retention::kept(today, departure);
-    match v {
-        Verdict::Kept => report::text(b", kept"),
-        Verdict::NotKept => report::text(b", not kept"),
+fn verdict(rt: &impl Print, today: u64, departure: u64) -> io::Result<()> {
+    match retention::kept(today, departure) {
+        Verdict::Kept => report::text(rt, b", kept"),
+        Verdict::NotKept => report::text(rt, b", not kept"),
         Verdict::Refused(n) => {
-            report::text(b", ");
-            report::refusal(n);
+            report::text(rt, b", ")?;
+            report::refusal(rt, n)
         }
     }
 }
 
 // The verdicts on the day before a date, on its day and on the next; past the last day, that on the last. No contract says here how great a day is, so that
 // those beside it are taken modulo 2^64.
-fn around(d: Date, departure: u64) {
-    let t = calendar::to_day(d.year, d.month, d.day);
-    match t {
-        Numbered::Refused(n) => verdict(scope::LAST_DAY, departure),
+fn around(rt: &impl Print, d: Date, departure: u64) -> io::Result<()> {
+    match calendar::to_day(d.year, d.month, d.day) {
+        Numbered::Refused(_) => verdict(rt, scope::LAST_DAY, departure),
         Numbered::Found(n) => {
-            verdict(std::num::wrapping_sub_u64(n, 1), departure);
-            verdict(n, departure);
-            verdict(std::num::wrapping_add_u64(n, 1), departure);
+            verdict(rt, n.wrapping_sub(1), departure)?;
+            verdict(rt, n, departure)?;
+            verdict(rt, n.wrapping_add(1), departure)
         }
     }
 }
 
-fn until(departure: u64) {
-    let t = retention::kept_until(departure);
-    match t {
-        Dated::Refused(n) => report::refusal(n),
+fn until(rt: &impl Print, departure: u64) -> io::Result<()> {
+    match retention::kept_until(departure) {
+        Dated::Refused(n) => report::refusal(rt, n),
         Dated::Found(d) => {
-            report::date(d);
-            around(d, departure);
+            report::date(rt, d)?;
+            around(rt, d, departure)
         }
     }
 }
 
 // A departure, if the calendar has it.
-fn departure(year: u64, month: u64, day: u64) {
-    let d = Date {
-        year: year,
-        month: month,
-        day: day,
-    };
-    let t = calendar::to_day(year, month, day);
-    match t {
-        Numbered::Refused(n) => return,
+fn departure(rt: &impl Print, year: u64, month: u64, day: u64) -> io::Result<()> {
+    match calendar::to_day(year, month, day) {
+        Numbered::Refused(_) => Ok(()),
         Numbered::Found(n) => {
-            report::date(d);
-            report::text(b": until ");
-            until(n);
-            report::text(b"\n");
+            report::date(rt, Date { year, month, day })?;
+            report::text(rt, b": until ")?;
+            until(rt, n)?;
+            report::text(rt, b"\n")
         }
     }
 }
 
 // The first day of each month of a year, and the last ones.
-fn month_ends(year: u64) {
-    let mut month: u64 = 1;
-    while month <= 12 {
-        departure(year, month, 1);
-        departure(year, month, 28);
-        departure(year, month, 29);
-        departure(year, month, 30);
-        departure(year, month, 31);
-        month += 1;
+fn month_ends(rt: &impl Print, year: u64) -> io::Result<()> {
+    for month in 1..=12 {
+        departure(rt, year, month, 1)?;
+        departure(rt, year, month, 28)?;
+        departure(rt, year, month, 29)?;
+        departure(rt, year, month, 30)?;
+        departure(rt, year, month, 31)?;
     }
+    Ok(())
 }
 
 // Years whose Augusts lead to Februaries of all kinds, and the last two, from which departures lead up to the last day and past it.
-pub fn years() {
-    month_ends(2000);
-    month_ends(2022);
-    month_ends(2024);
-    month_ends(2098);
-    month_ends(2100);
-    month_ends(2198);
-    month_ends(2199);
+pub fn years(rt: &impl Print) -> io::Result<()> {
+    month_ends(rt, 2000)?;
+    month_ends(rt, 2022)?;
+    month_ends(rt, 2024)?;
+    month_ends(rt, 2098)?;
+    month_ends(rt, 2100)?;
+    month_ends(rt, 2198)?;
+    month_ends(rt, 2199)
 }
 
-fn asked(today: u64, departure: u64) {
-    report::number(today);
-    report::text(b" by ");
-    report::number(departure);
-    verdict(today, departure);
-    report::text(b"\n");
+fn asked(rt: &impl Print, today: u64, departure: u64) -> io::Result<()> {
+    report::number(rt, today)?;
+    report::text(rt, b" by ")?;
+    report::number(rt, departure)?;
+    verdict(rt, today, departure)?;
+    report::text(rt, b"\n")
 }
 
 // Either day past the last, and both; a departure still to come.
-pub fn refusals() {
-    asked(73049, 0);
-    asked(0, 73049);
-    asked(73049, 73049);
-    asked(18446744073709551615, 73048);
-    asked(73048, 18446744073709551615);
-    asked(0, 73048);
-    asked(73048, 0);
-    report::number(73049);
-    report::text(b": until ");
-    until(73049);
-    report::text(b"\n");
+pub fn refusals(rt: &impl Print) -> io::Result<()> {
+    asked(rt, 73049, 0)?;
+    asked(rt, 0, 73049)?;
+    asked(rt, 73049, 73049)?;
+    asked(rt, 18446744073709551615, 73048)?;
+    asked(rt, 73048, 18446744073709551615)?;
+    asked(rt, 0, 73048)?;
+    asked(rt, 73048, 0)?;
+    report::number(rt, 73049)?;
+    report::text(rt, b": until ")?;
+    until(rt, 73049)?;
+    report::text(rt, b"\n")
 }

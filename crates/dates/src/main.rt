@@ -6,10 +6,12 @@ mod days;
 mod keeping;
 mod report;
 
-fn main() {
-    days::spread();
-    days::edges();
-    days::refusals();
-    keeping::years();
-    keeping::refusals();
+use std::io;
+
+fn main(rt: HostRuntime) -> io::Result<()> {
+    days::spread(&rt)?;
+    days::edges(&rt)?;
+    days::refusals(&rt)?;
+    keeping::years(&rt)?;
+    keeping::refusals(&rt)
 }

@@ -1,30 +1,27 @@
 // What the program writes: text, numbers and dates.
 use calendar::Date;
-use libc::STDOUT_FILENO;
+use std::io;
+use std::io::Write;
 
-pub fn text(t: &[u8]) {
-    io::write_all(STDOUT_FILENO, t);
+pub fn text(rt: &impl Print, t: &[u8]) -> io::Result<()> {
+    io::writer(rt).write_all(t)
 }
 
-pub fn number(n: u64) {
-    io::print_decimal(STDOUT_FILENO, n);
+pub fn number(rt: &impl Print, n: u64) -> io::Result<()> {
+    rt.print(n)
 }
 
-pub fn refusal(n: u64) {
-    text(b"refused ");
-    number(n);
+pub fn refusal(rt: &impl Print, n: u64) -> io::Result<()> {
+    text(rt, b"refused ")?;
+    number(rt, n)
 }
 
-fn part(n: u64) {
-    text(b"-");
-    if n < 10 {
-        text(b"0");
-    }
-    number(n);
+fn part(rt: &impl Print, n: u64) -> io::Result<()> {
+    print!(rt; "-{n:02}")
 }
 
-pub fn date(d: Date) {
-    number(d.year);
-    part(d.month);
-    part(d.day);
+pub fn date(rt: &impl Print, d: Date) -> io::Result<()> {
+    number(rt, d.year)?;
+    part(rt, d.month)?;
+    part(rt, d.day)
 }

@@ -65,10 +65,8 @@ fn data_cuts(key: &[u8], iv: &[u8], ad: &[u8], text: &[u8]) -> bool
     requires { length ad.now ≤ 64 }
 {
     let mut all = true;
-    let mut cut = 0;
-    while cut <= ad.len() {
+    for cut in 0..=ad.len() {
         all = all & data_cut(key, iv, ad, text, cut);
-        cut += 1;
     }
     all
 }
@@ -77,10 +75,8 @@ fn text_cuts(key: &[u8], iv: &[u8], ad: &[u8], text: &[u8]) -> bool
     requires { length text.now ≤ 64 }
 {
     let mut all = true;
-    let mut cut = 0;
-    while cut <= text.len() {
+    for cut in 0..=text.len() {
         all = all & text_cut(key, iv, ad, text, cut);
-        cut += 1;
     }
     all
 }
@@ -101,10 +97,8 @@ fn every_text(key: &[u8], iv: &[u8], ad: &[u8], text: &[u8]) -> bool
     requires { (length ad.now ≤ 64) × (length text.now ≤ 64) }
 {
     let mut all = true;
-    let mut n = 0;
-    while n <= text.len() {
+    for n in 0..=text.len() {
         all = all & with_text_to(key, iv, ad, text, n);
-        n += 1;
     }
     all
 }
@@ -119,10 +113,8 @@ fn every_page(key: &[u8], iv: &[u8], ad: &[u8], text: &[u8]) -> bool
     requires { (length ad.now ≤ 64) × (length text.now ≤ 64) }
 {
     let mut all = true;
-    let mut n = 0;
-    while n <= ad.len() {
+    for n in 0..=ad.len() {
         all = all & with_data_to(key, iv, ad, text, n);
-        n += 1;
     }
     all
 }

@@ -5,6 +5,7 @@ use crate::pieces::Going;
 use crate::sealed::{IV_2, KEY_2};
 use crate::{cuts, output, pieces, report};
 use session::{Said, Session};
+use std::io;
 
 // Room for a byte more than the greatest length.
 fn room() -> [u8; 1048577]
@@ -13,10 +14,10 @@ fn room() -> [u8; 1048577]
     [0; 1048577]
 }
 
-fn verdict(name: &[u8], answer: u64) {
-    report::text(name);
-    report::answer(answer);
-    report::text(b"\n");
+fn verdict(rt: &impl Print, name: &[u8], answer: u64) -> io::Result<()> {
+    report::text(rt, name)?;
+    report::answer(rt, answer)?;
+    report::text(rt, b"\n")
 }
 
 // 1, which no call here answers with, where a call of many was not accepted.
@@ -33,50 +34,69 @@ fn one_more(s: Session, out: &mut [u8]) -> Said
     session::text(s, b"\x00", out)
 }
 
-fn resumed_at_end(told: Going, key: &[u8], iv: &[u8]) -> Going {
+fn resumed_at_end(rt: &impl Print, told: Going, key: &[u8], iv: &[u8]) -> io::Result<Going> {
     verdict(
+        rt,
         b"session, text of 1048576 bytes in pieces of 65536: ",
         together(told.accepted),
-    );
+    )?;
     let g = cuts::resumed(told, key, iv);
-    verdict(b"session, suspended and resumed: ", together(g.accepted));
-    g
+    verdict(
+        rt,
+        b"session, suspended and resumed: ",
+        together(g.accepted),
+    )?;
+    Ok(g)
 }
 
 // The tag of a session that took the first n bytes in pieces of 65,536, was suspended and resumed, and was offered a byte more.
-fn in_pieces(key: &[u8], iv: &[u8], text: &[u8], out: &mut [u8], n: usize) -> [u8; 16]
+fn in_pieces(
+    rt: &impl Print,
+    key: &[u8],
+    iv: &[u8],
+    text: &[u8],
+    out: &mut [u8],
+    n: usize,
+) -> io::Result<[u8; 16]>
     requires { (n ≤ length text.now) × (n ≤ length out.old) }
 {
     let told = pieces::all_text(pieces::begun(key, iv), &text[0..n], out, 65536);
-    let g = resumed_at_end(told, key, iv);
+    let g = resumed_at_end(rt, told, key, iv)?;
     let s = g.session;
     let more = one_more(s, out);
     let t = more.session;
-    verdict(b"session, one byte more: ", more.answer);
+    verdict(rt, b"session, one byte more: ", more.answer)?;
     let f = session::finish(t);
-    verdict(b"session, finished: ", f.answer);
-    f.tag
+    verdict(rt, b"session, finished: ", f.answer)?;
+    Ok(f.tag)
 }
 
 // The tag of the first n bytes sealed whole; then all of them, a byte more.
-fn whole(key: &[u8], iv: &[u8], text: &[u8], out: &mut [u8], n: usize) -> [u8; 16]
+fn whole(
+    rt: &impl Print,
+    key: &[u8],
+    iv: &[u8],
+    text: &[u8],
+    out: &mut [u8],
+    n: usize,
+) -> io::Result<[u8; 16]>
     requires { n ≤ length text.now }
 {
     let s = page::seal(key, iv, b"", &text[0..n], out);
-    verdict(b"whole, text of 1048576 bytes: ", s.answer);
+    verdict(rt, b"whole, text of 1048576 bytes: ", s.answer)?;
     let more = page::seal(key, iv, b"", text, out);
-    verdict(b"whole, text of 1048577 bytes: ", more.answer);
-    s.tag
+    verdict(rt, b"whole, text of 1048577 bytes: ", more.answer)?;
+    Ok(s.tag)
 }
 
-pub fn limits() {
+pub fn limits(rt: &impl Print) -> io::Result<()> {
     let key = KEY_2;
     let iv = IV_2;
     let text = room();
     let mut out = room();
-    let a = in_pieces(&key, &iv, &text, &mut out, 1048576);
-    let b = whole(&key, &iv, &text, &mut out, 1048576);
-    report::text(b"tags of 1048576 bytes, session and whole: ");
-    report::agreement(output::same(&a, &b));
-    report::text(b"\n");
+    let a = in_pieces(rt, &key, &iv, &text, &mut out, 1048576)?;
+    let b = whole(rt, &key, &iv, &text, &mut out, 1048576)?;
+    report::text(rt, b"tags of 1048576 bytes, session and whole: ")?;
+    report::agreement(rt, output::same(&a, &b))?;
+    report::text(rt, b"\n")
 }

@@ -17,10 +17,8 @@ fn expected(front: &[u8], i: usize) -> u8 {
 // Whether an output has these bytes at its front, and behind them what stood there before.
 pub fn holds(out: &[u8], front: &[u8]) -> bool {
     let mut same = front.len() <= out.len();
-    let mut i = 0;
-    while i < out.len() {
+    for i in 0..out.len() {
         same = same & (out[i] == expected(front, i));
-        i += 1;
     }
     same
 }

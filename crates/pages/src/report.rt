@@ -1,28 +1,29 @@
 // What the program writes: text and numbers.
-use libc::STDOUT_FILENO;
+use std::io;
+use std::io::Write;
 
-pub fn text(t: &[u8]) {
-    io::write_all(STDOUT_FILENO, t);
+pub fn text(rt: &impl Print, t: &[u8]) -> io::Result<()> {
+    io::writer(rt).write_all(t)
 }
 
-pub fn number(n: u64) {
-    io::print_decimal(STDOUT_FILENO, n);
+pub fn number(rt: &impl Print, n: u64) -> io::Result<()> {
+    rt.print(n)
 }
 
-pub fn agreement(agrees: bool) {
+pub fn agreement(rt: &impl Print, agrees: bool) -> io::Result<()> {
     if agrees {
-        text(b"agrees");
+        text(rt, b"agrees")
     } else {
-        text(b"differs");
+        text(rt, b"differs")
     }
 }
 
 // The number that a call answers with.
-pub fn answer(n: u64) {
+pub fn answer(rt: &impl Print, n: u64) -> io::Result<()> {
     if n == 0 {
-        text(b"accepted");
+        text(rt, b"accepted")
     } else {
-        text(b"refused ");
-        number(n);
+        text(rt, b"refused ")?;
+        number(rt, n)
     }
 }

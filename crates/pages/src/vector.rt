@@ -2,6 +2,7 @@
 ghost use Rattle.std.specs.Prelude.{◌≤◌, ◌<◌, length};
 
 use crate::{output, pieces, report};
+use std::io;
 
 fn seals(key: &[u8], iv: &[u8], ad: &[u8], text: &[u8], cipher: &[u8], tag: &[u8]) -> bool {
     let mut out = output::fresh();
@@ -41,10 +42,8 @@ fn changed(x: &[u8], at: usize) -> [u8; 64]
     requires { length x.now ≤ 64 }
 {
     let mut y = [0u8; 64];
-    let mut i = 0;
-    while i < x.len() {
+    for i in 0..x.len() {
         y[i] = flipped_if(x[i], i == at);
-        i += 1;
     }
     y
 }
@@ -98,37 +97,42 @@ fn refused_everywhere(p: Part, key: &[u8], iv: &[u8], ad: &[u8], cipher: &[u8], 
 {
     let n = size(p, ad, cipher, tag);
     let mut all = true;
-    let mut at = 0;
-    while at < n {
+    for at in 0..n {
         all = all & refused_at(p, key, iv, ad, cipher, tag, at);
-        at += 1;
     }
     all
 }
 
 // The parts that a vector has.
-fn parts(cipher: &[u8], ad: &[u8]) {
-    report::text(b"; tag");
+fn parts(rt: &impl Print, cipher: &[u8], ad: &[u8]) -> io::Result<()> {
+    report::text(rt, b"; tag")?;
     if cipher.len() > 0 {
-        report::text(b", ciphertext");
+        report::text(rt, b", ciphertext")?;
     }
     if ad.len() > 0 {
-        report::text(b", data");
+        report::text(rt, b", data")?;
     }
-    report::text(b" changed: ");
+    report::text(rt, b" changed: ")
 }
 
-fn changes(key: &[u8], iv: &[u8], ad: &[u8], cipher: &[u8], tag: &[u8])
+fn changes(
+    rt: &impl Print,
+    key: &[u8],
+    iv: &[u8],
+    ad: &[u8],
+    cipher: &[u8],
+    tag: &[u8],
+) -> io::Result<()>
     requires { (length ad.now ≤ 64) × (length cipher.now ≤ 64) × (length tag.now ≤ 64) }
 {
     let tags = refused_everywhere(Part::Tag, key, iv, ad, cipher, tag);
     let ciphers = refused_everywhere(Part::Ciphertext, key, iv, ad, cipher, tag);
     let datas = refused_everywhere(Part::Data, key, iv, ad, cipher, tag);
-    parts(cipher, ad);
+    parts(rt, cipher, ad)?;
     if tags & ciphers & datas {
-        report::text(b"refused 5\n");
+        report::text(rt, b"refused 5\n")
     } else {
-        report::text(b"not always refused 5\n");
+        report::text(rt, b"not always refused 5\n")
     }
 }
 
@@ -143,16 +147,25 @@ fn seals_in_pieces(key: &[u8], iv: &[u8], ad: &[u8], text: &[u8], cipher: &[u8],
 }
 
 // Vector number v: a line.
-pub fn vector(v: u64, key: &[u8], iv: &[u8], ad: &[u8], text: &[u8], cipher: &[u8], tag: &[u8])
+pub fn vector(
+    rt: &impl Print,
+    v: u64,
+    key: &[u8],
+    iv: &[u8],
+    ad: &[u8],
+    text: &[u8],
+    cipher: &[u8],
+    tag: &[u8],
+) -> io::Result<()>
     requires { (length ad.now ≤ 64) × (length text.now ≤ 64) × (length cipher.now ≤ 64) × (length tag.now ≤ 64) }
 {
     let whole = seals(key, iv, ad, text, cipher, tag);
     let cut = seals_in_pieces(key, iv, ad, text, cipher, tag);
-    report::text(b"SNOW-V-GCM ");
-    report::number(v);
-    report::text(b": sealed whole, in pieces of 1, 7 and 16 bytes: ");
-    report::agreement(whole & cut);
-    report::text(b"; opened: ");
-    report::agreement(opens(key, iv, ad, cipher, tag, 0, text));
-    changes(key, iv, ad, cipher, tag);
+    report::text(rt, b"SNOW-V-GCM ")?;
+    report::number(rt, v)?;
+    report::text(rt, b": sealed whole, in pieces of 1, 7 and 16 bytes: ")?;
+    report::agreement(rt, whole & cut)?;
+    report::text(rt, b"; opened: ")?;
+    report::agreement(rt, opens(key, iv, ad, cipher, tag, 0, text))?;
+    changes(rt, key, iv, ad, cipher, tag)
 }

@@ -4,6 +4,7 @@ ghost use Rattle.std.specs.Prelude.{◌≡◌, ◌*◌, ◌≤◌, length};
 use crate::{lent, report, vector};
 use cipher::{Drawn, Registers, State};
 use lfsr::Lfsr;
+use std::io;
 
 // What an output is filled with before it is lent, so that a byte written to it shows.
 pub const MARK: u8 = 0x5a;
@@ -42,101 +43,93 @@ pub fn same(s: State, t: State) -> bool {
 
 // Whether no byte of a marked output was changed.
 fn unwritten(out: &[u8]) -> bool {
-    let n = out.len();
-    let mut i = 0;
-    while i < n {
-        if out[i] != MARK {
-            return false;
-        }
-        i += 1;
-    }
-    true
+    out.iter().all(|b| *b == MARK)
 }
 
 // Which way a call goes, and from where.
-pub fn way(s: State, back: bool) {
+pub fn way(rt: &impl Print, s: State, back: bool) -> io::Result<()> {
     if back {
-        report::labelled(b" back at count ", s.count);
+        report::labelled(rt, b" back at count ", s.count)
     } else {
-        report::labelled(b" forward at count ", s.count);
+        report::labelled(rt, b" forward at count ", s.count)
     }
 }
 
 // The count that a call leads to.
-pub fn to_count(s: State) {
-    report::labelled(b", count ", s.count);
-    report::text(b"\n");
+pub fn to_count(rt: &impl Print, s: State) -> io::Result<()> {
+    report::labelled(rt, b", count ", s.count)?;
+    report::text(rt, b"\n")
 }
 
-fn asked(s: State, len: usize, n: usize, back: bool) {
-    report::labelled(b"run of ", n as u64);
-    way(s, back);
-    report::labelled(b", output of ", len as u64);
-    report::text(b" bytes: ");
+fn asked(rt: &impl Print, s: State, len: usize, n: usize, back: bool) -> io::Result<()> {
+    report::labelled(rt, b"run of ", n as u64)?;
+    way(rt, s, back)?;
+    report::labelled(rt, b", output of ", len as u64)?;
+    report::text(rt, b" bytes: ")
 }
 
-fn answered(answer: u64, wrote: usize, kept: bool, s: State) {
-    report::answer(answer);
-    report::labelled(b", part of ", wrote as u64);
+fn answered(rt: &impl Print, answer: u64, wrote: usize, kept: bool, s: State) -> io::Result<()> {
+    report::answer(rt, answer)?;
+    report::labelled(rt, b", part of ", wrote as u64)?;
     if kept {
-        report::text(b" bytes, state and output as they were\n");
+        report::text(rt, b" bytes, state and output as they were\n")
     } else {
-        report::text(b" bytes");
-        to_count(s);
+        report::text(rt, b" bytes")?;
+        to_count(rt, s)
     }
 }
 
 // A run, with the length of the part that it hands back. The number lent is none that a run answers with.
-pub fn run(s: State, out: &mut [u8], n: usize, back: bool) -> State
+pub fn run(rt: &impl Print, s: State, out: &mut [u8], n: usize, back: bool) -> io::Result<State>
     requires { length out.old ≤ 16 * n }
     ensures { length out.new ≡ length out.old }
 {
-    asked(s, out.len(), n, back);
+    asked(rt, s, out.len(), n, back)?;
     let mut answer: u64 = 255;
     let r = lent::run(s, &mut answer, out, n, back);
     let t = r.state;
-    answered(answer, r.wrote, same(s, t) & unwritten(out), t);
-    t
+    answered(rt, answer, r.wrote, same(s, t) & unwritten(out), t)?;
+    Ok(t)
 }
 
 // A run with room for one block, or for none if it draws none.
-pub fn short_run(s: State, n: usize, back: bool) {
+pub fn short_run(rt: &impl Print, s: State, n: usize, back: bool) -> io::Result<()> {
     let mut out = [MARK; 16];
     if n == 0 {
-        run(s, &mut out[..0], n, back);
+        run(rt, s, &mut out[..0], n, back)?;
     } else {
-        run(s, &mut out, n, back);
+        run(rt, s, &mut out, n, back)?;
     }
+    Ok(())
 }
 
-fn drawn(d: Drawn) {
+fn drawn(rt: &impl Print, d: Drawn) -> io::Result<()> {
     match d {
         Drawn::Z(z) => {
-            report::text(b"block ");
-            report::block(z);
+            report::text(rt, b"block ")?;
+            report::block(rt, z)
         }
-        Drawn::Refused(n) => report::refused(n),
+        Drawn::Refused(n) => report::refused(rt, n),
     }
 }
 
-pub fn step(s: State, back: bool) {
-    report::text(b"step");
-    way(s, back);
-    report::text(b": ");
+pub fn step(rt: &impl Print, s: State, back: bool) -> io::Result<()> {
+    report::text(rt, b"step")?;
+    way(rt, s, back)?;
+    report::text(rt, b": ")?;
     let w = vector::step(s, back);
     let t = w.state;
-    let d = w.drawn;
-    drawn(d);
+    drawn(rt, w.drawn)?;
     if same(s, t) {
-        report::text(b", state as it was\n");
+        report::text(rt, b", state as it was\n")
     } else {
-        to_count(t);
+        to_count(rt, t)
     }
 }
 
-pub fn trace(s: State, key: &[u8]) {
-    report::labelled(b"trace, key of ", key.len() as u64);
-    report::labelled(b" bytes, count ", s.count);
-    report::text(b": ");
-    report::traced(start::trace(s, key));
+pub fn trace(rt: &impl Print, s: State, key: &[u8]) -> io::Result<()> {
+    report::labelled(rt, b"trace, key of ", key.len() as u64)?;
+    report::labelled(rt, b" bytes, count ", s.count)?;
+    report::text(rt, b": ")?;
+    report::traced(rt, start::trace(s, key))
 }

@@ -6,6 +6,7 @@ use crate::keystream::{FIRST_SEALED, IV_3, KEY_3, KEYSTREAM_3, LAST_PLAIN, LAST_
 use crate::{call, report, vector};
 use cipher::State;
 use start::Mode;
+use std::io;
 use words::Block;
 
 // Room for a block more than a run ever draws.
@@ -16,18 +17,18 @@ fn room() -> [u8; 16 * 65539]
 }
 
 // The last of 65,538 blocks in an output.
-fn last(out: &[u8], expected: Block)
+fn last(rt: &impl Print, out: &[u8], expected: Block) -> io::Result<()>
     requires { 16 * 65538 ≤ length out.now }
 {
     let z = words::load(out, 16 * 65537);
-    report::text(b"last block made: ");
-    report::block(z);
+    report::text(rt, b"last block made: ")?;
+    report::block(rt, z)?;
     if words::same(z, expected) {
-        report::text(b", agrees\n");
+        report::text(rt, b", agrees\n")
     } else {
-        report::text(b", expected ");
-        report::block(expected);
-        report::text(b"\n");
+        report::text(rt, b", expected ")?;
+        report::block(rt, expected)?;
+        report::text(rt, b"\n")
     }
 }
 
@@ -39,111 +40,125 @@ fn at_count(s: State, count: u64) -> State {
 }
 
 // The state after 65,538 blocks, traced: at its own count, past the greatest, a block too low, and under 31 bytes of the key.
-fn traces(s: State) {
+fn traces(rt: &impl Print, s: State) -> io::Result<()> {
     let key = KEY_3;
-    call::trace(s, &key);
-    call::trace(at_count(s, 65539), &key);
-    call::trace(at_count(s, 65537), &key);
-    call::trace(s, &key[..31]);
+    call::trace(rt, s, &key)?;
+    call::trace(rt, at_count(s, 65539), &key)?;
+    call::trace(rt, at_count(s, 65537), &key)?;
+    call::trace(rt, s, &key[..31])
 }
 
 // 65,538 steps one by one, each block held to the one that stands in an output.
-fn single_steps(s: State, out: &[u8], back: bool) -> State
+fn single_steps(rt: &impl Print, s: State, out: &[u8], back: bool) -> io::Result<State>
     requires { 16 * 65538 ≤ length out.now }
 {
     let mut t = s;
     let mut agreed: u64 = 0;
-    let mut i = 0;
-    while i < 65538 {
+    for i in 0..65538 {
         let w = vector::step(t, back);
-        let u = w.state;
-        let d = w.drawn;
-        t = u;
+        t = w.state;
         let z = words::load(out, 16 * i);
-        i += 1;
-        if words::same(vector::block(d), z) {
+        if words::same(vector::block(w.drawn), z) {
             agreed += 1;
         }
     }
-    report::text(b"single steps");
-    call::way(s, back);
-    report::text(b": ");
-    vector::tally(agreed, 65538);
-    report::text(b" blocks as in the output");
-    call::to_count(t);
-    t
+    report::text(rt, b"single steps")?;
+    call::way(rt, s, back)?;
+    report::text(rt, b": ")?;
+    vector::tally(rt, agreed, 65538)?;
+    report::text(rt, b" blocks as in the output")?;
+    call::to_count(rt, t)?;
+    Ok(t)
 }
 
 // A run that is lent the places of n blocks of the output.
-fn run(s: State, out: &mut [u8], first: usize, n: usize, back: bool) -> State
+fn run(
+    rt: &impl Print,
+    s: State,
+    out: &mut [u8],
+    first: usize,
+    n: usize,
+    back: bool,
+) -> io::Result<State>
     requires { 16 * (first + n) ≤ length out.old }
     ensures { length out.new ≡ length out.old }
 {
-    call::run(s, &mut out[16 * first..16 * (first + n)], n, back)
+    call::run(rt, s, &mut out[16 * first..16 * (first + n)], n, back)
 }
 
-fn two_runs(s: State, out: &mut [u8]) -> State
+fn two_runs(rt: &impl Print, s: State, out: &mut [u8]) -> io::Result<State>
     requires { 16 * 65538 ≤ length out.old }
     ensures { length out.new ≡ length out.old }
 {
-    let t = run(s, out, 0, 40000, false);
-    run(t, out, 40000, 25538, false)
+    let t = run(rt, s, out, 0, 40000, false)?;
+    run(rt, t, out, 40000, 25538, false)
 }
 
 // As far as a run goes, and a block more, which leaves the state as it is.
-fn farthest(s: State, out: &mut [u8], back: bool, expected: Block) -> State
+fn farthest(
+    rt: &impl Print,
+    s: State,
+    out: &mut [u8],
+    back: bool,
+    expected: Block,
+) -> io::Result<State>
     requires { 16 * 65538 ≤ length out.old }
     ensures { length out.new ≡ length out.old }
 {
-    let t = run(s, out, 0, 65538, back);
-    last(out, expected);
-    call::short_run(t, 1, back);
-    t
+    let t = run(rt, s, out, 0, 65538, back)?;
+    last(rt, out, expected)?;
+    call::short_run(rt, t, 1, back)?;
+    Ok(t)
 }
 
-fn compared(s: State, t: State, u: State) {
+fn compared(rt: &impl Print, s: State, t: State, u: State) -> io::Result<()> {
     if call::same(s, t) & call::same(s, u) {
-        report::text(b": the same registers and count\n");
+        report::text(rt, b": the same registers and count\n")
     } else {
-        report::text(b": different\n");
+        report::text(rt, b": different\n")
     }
 }
 
-fn forward(s: State, out: &mut [u8], expected: Block) -> State
+fn forward(rt: &impl Print, s: State, out: &mut [u8], expected: Block) -> io::Result<State>
     requires { 16 * 65538 ≤ length out.old }
     ensures { length out.new ≡ length out.old }
 {
-    let t = two_runs(s, out);
-    let u = single_steps(s, out, false);
-    let e = farthest(s, out, false, expected);
-    report::text(b"one run, two runs and single steps");
-    compared(e, t, u);
-    e
+    let t = two_runs(rt, s, out)?;
+    let u = single_steps(rt, s, out, false)?;
+    let e = farthest(rt, s, out, false, expected)?;
+    report::text(rt, b"one run, two runs and single steps")?;
+    compared(rt, e, t, u)?;
+    Ok(e)
 }
 
 // From the end e back to the start s.
-fn back(s: State, e: State, out: &mut [u8], expected: Block)
+fn back(rt: &impl Print, s: State, e: State, out: &mut [u8], expected: Block) -> io::Result<()>
     requires { 16 * 65538 ≤ length out.old }
 {
-    let t = farthest(e, out, true, expected);
-    let u = single_steps(e, out, true);
-    report::text(b"start, one run back and single steps back");
-    compared(s, t, u);
+    let t = farthest(rt, e, out, true, expected)?;
+    let u = single_steps(rt, e, out, true)?;
+    report::text(rt, b"start, one run back and single steps back")?;
+    compared(rt, s, t, u)
 }
 
 // Under key and IV 3: a run back that is too long and goes past the start, though it has room; then forward to the last block, and from there back to
 // the first. The state after the last block comes back.
-fn both_ways(mode: Mode, first_block: Block, last_block: Block) -> State {
-    report::text(b"SNOW-V 3 in ");
-    report::mode(mode);
-    report::text(b"\n");
+fn both_ways(
+    rt: &impl Print,
+    mode: Mode,
+    first_block: Block,
+    last_block: Block,
+) -> io::Result<State> {
+    report::text(rt, b"SNOW-V 3 in ")?;
+    report::mode(rt, mode)?;
+    report::text(rt, b"\n")?;
     let s = started(mode);
     let mut out = room();
-    call::run(s, &mut out, 65539, true);
-    let e = forward(s, &mut out, last_block);
-    traces(e);
-    back(s, e, &mut out, first_block);
-    e
+    call::run(rt, s, &mut out, 65539, true)?;
+    let e = forward(rt, s, &mut out, last_block)?;
+    traces(rt, e)?;
+    back(rt, s, e, &mut out, first_block)?;
+    Ok(e)
 }
 
 fn started(mode: Mode) -> State {
@@ -154,43 +169,46 @@ fn started(mode: Mode) -> State {
 }
 
 // A run of n with room for one block, both ways.
-fn short_runs(s: State, n: usize) {
-    call::short_run(s, n, false);
-    call::short_run(s, n, true);
+fn short_runs(rt: &impl Print, s: State, n: usize) -> io::Result<()> {
+    call::short_run(rt, s, n, false)?;
+    call::short_run(rt, s, n, true)
 }
 
 // Every call on a state. Of two blocks and more the output is too short, so that a run that is refused for its count breaks a later rule too.
-fn calls(s: State) {
+fn calls(rt: &impl Print, s: State) -> io::Result<()> {
     let key = KEY_3;
-    call::step(s, false);
-    call::step(s, true);
-    short_runs(s, 0);
-    short_runs(s, 1);
-    short_runs(s, 2);
-    short_runs(s, 65539);
-    call::trace(s, &key);
+    call::step(rt, s, false)?;
+    call::step(rt, s, true)?;
+    short_runs(rt, s, 0)?;
+    short_runs(rt, s, 1)?;
+    short_runs(rt, s, 2)?;
+    short_runs(rt, s, 65539)?;
+    call::trace(rt, s, &key)
 }
 
-pub fn plain() {
+pub fn plain(rt: &impl Print) -> io::Result<()> {
     let first_blocks = KEYSTREAM_3;
     let last_block = LAST_PLAIN;
     let e = both_ways(
+        rt,
         Mode::Plain,
         words::load(&first_blocks, 0),
         words::load(&last_block, 0),
-    );
-    calls(started(Mode::Plain));
-    calls(e);
-    calls(at_count(e, 65539));
-    calls(at_count(e, 0xffffffffffffffff));
+    )?;
+    calls(rt, started(Mode::Plain))?;
+    calls(rt, e)?;
+    calls(rt, at_count(e, 65539))?;
+    calls(rt, at_count(e, 0xffffffffffffffff))
 }
 
-pub fn sealed() {
+pub fn sealed(rt: &impl Print) -> io::Result<()> {
     let first_block = FIRST_SEALED;
     let last_block = LAST_SEALED;
     both_ways(
+        rt,
         Mode::Sealed,
         words::load(&first_block, 0),
         words::load(&last_block, 0),
-    );
+    )?;
+    Ok(())
 }

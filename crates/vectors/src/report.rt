@@ -1,79 +1,85 @@
 // What the program writes: text, numbers, and blocks in hex, byte 0 first.
-use libc::STDOUT_FILENO;
 use start::{Mode, Origin, Traced};
+use std::io;
+use std::io::Write;
 use words::Block;
 
-pub fn text(t: &[u8]) {
-    io::write_all(STDOUT_FILENO, t);
+pub fn text(rt: &impl Print, t: &[u8]) -> io::Result<()> {
+    io::writer(rt).write_all(t)
 }
 
-pub fn number(n: u64) {
-    io::print_decimal(STDOUT_FILENO, n);
+pub fn number(rt: &impl Print, n: u64) -> io::Result<()> {
+    rt.print(n)
 }
 
-pub fn labelled(t: &[u8], n: u64) {
-    text(t);
-    number(n);
+pub fn labelled(rt: &impl Print, t: &[u8], n: u64) -> io::Result<()> {
+    text(rt, t)?;
+    number(rt, n)
 }
 
 // The low byte of a word.
-fn byte(w: u32) {
-    io::print_hex(STDOUT_FILENO, (w % 0x100) as u64, 2);
+fn byte(rt: &impl Print, w: u32) -> io::Result<()> {
+    let b = w % 0x100;
+    print!(rt; "{b:02x}")
 }
 
-fn word(w: u32) {
-    byte(w);
-    byte(w / 0x100);
-    byte(w / 0x10000);
-    byte(w / 0x1000000);
+fn word(rt: &impl Print, w: u32) -> io::Result<()> {
+    byte(rt, w)?;
+    byte(rt, w / 0x100)?;
+    byte(rt, w / 0x10000)?;
+    byte(rt, w / 0x1000000)
 }
 
-pub fn block(x: Block) {
-    word(x.w0);
-    word(x.w1);
-    word(x.w2);
-    word(x.w3);
+pub fn block(rt: &impl Print, x: Block) -> io::Result<()> {
+    word(rt, x.w0)?;
+    word(rt, x.w1)?;
+    word(rt, x.w2)?;
+    word(rt, x.w3)
 }
 
 // Half of an IV, as a trace gives it.
-fn half(x: u64) {
-    word((x % 0x100000000) as u32);
-    word((x / 0x100000000) as u32);
+fn half(rt: &impl Print, x: u64) -> io::Result<()> {
+    word(rt, (x % 0x100000000) as u32)?;
+    word(rt, (x / 0x100000000) as u32)
 }
 
-pub fn mode(m: Mode) {
+pub fn mode(rt: &impl Print, m: Mode) -> io::Result<()> {
     match m {
-        Mode::Plain => text(b"plain mode"),
-        Mode::Sealed => text(b"sealed mode"),
+        Mode::Plain => text(rt, b"plain mode"),
+        Mode::Sealed => text(rt, b"sealed mode"),
     }
 }
 
-pub fn refused(n: u64) {
-    labelled(b"refused ", n);
+pub fn refused(rt: &impl Print, n: u64) -> io::Result<()> {
+    labelled(rt, b"refused ", n)
 }
 
 // The number that a run answers with.
-pub fn answer(n: u64) {
+pub fn answer(rt: &impl Print, n: u64) -> io::Result<()> {
     if n == 0 {
-        text(b"accepted");
+        text(rt, b"accepted")
     } else {
-        refused(n);
+        refused(rt, n)
     }
 }
 
-fn origin(o: Origin) {
-    text(b"IV ");
-    half(o.lo);
-    half(o.hi);
-    text(b", ");
-    let m = o.mode;
-    mode(m);
+fn origin(rt: &impl Print, o: Origin) -> io::Result<()> {
+    text(rt, b"IV ")?;
+    half(rt, o.lo)?;
+    half(rt, o.hi)?;
+    text(rt, b", ")?;
+    mode(rt, o.mode)
 }
 
-pub fn traced(t: Traced) {
+// Where a state comes from, or why it was refused.
+fn found(rt: &impl Print, t: Traced) -> io::Result<()> {
     match t {
-        Traced::Found(o) => origin(o),
-        Traced::Refused(n) => refused(n),
+        Traced::Found(o) => origin(rt, o),
+        Traced::Refused(n) => refused(rt, n),
     }
-    text(b"\n");
+}
+
+pub fn traced(rt: &impl Print, t: Traced) -> io::Result<()> {
+    found(rt, t)?;
+    text(rt, b"\n")
 }

@@ -4,6 +4,7 @@ ghost use Rattle.std.specs.Prelude.{◌≡◌, ◌*◌, ◌≤◌, ◌<◌, leng
 use crate::{lent, report};
 use cipher::{Drawn, Registers, State, Stepped};
 use start::Mode;
+use std::io;
 use words::Block;
 
 #[derive(Clone, Copy)]
@@ -13,23 +14,30 @@ enum Part {
     Back,
 }
 
-fn name(p: Part) {
+fn name(rt: &impl Print, p: Part) -> io::Result<()> {
     match p {
-        Part::Initialisation => report::text(b" initialisation"),
-        Part::Keystream => report::text(b" keystream"),
-        Part::Back => report::text(b" keystream back"),
+        Part::Initialisation => report::text(rt, b" initialisation"),
+        Part::Keystream => report::text(rt, b" keystream"),
+        Part::Back => report::text(rt, b" keystream back"),
     }
 }
 
-fn difference(v: u64, p: Part, i: usize, got: Block, expected: Block) {
-    report::labelled(b"SNOW-V ", v);
-    name(p);
-    report::labelled(b", block ", i as u64);
-    report::text(b": got ");
-    report::block(got);
-    report::text(b", expected ");
-    report::block(expected);
-    report::text(b"\n");
+fn difference(
+    rt: &impl Print,
+    v: u64,
+    p: Part,
+    i: usize,
+    got: Block,
+    expected: Block,
+) -> io::Result<()> {
+    report::labelled(rt, b"SNOW-V ", v)?;
+    name(rt, p)?;
+    report::labelled(rt, b", block ", i as u64)?;
+    report::text(rt, b": got ")?;
+    report::block(rt, got)?;
+    report::text(rt, b", expected ")?;
+    report::block(rt, expected)?;
+    report::text(rt, b"\n")
 }
 
 // Which block of n stands at place i: on the way back they come in the opposite order.
@@ -44,22 +52,27 @@ fn place(p: Part, i: usize, n: usize) -> usize
 }
 
 // How many of n blocks agree. A line is written for each that does not, with its number in the order made.
-fn agreeing(v: u64, p: Part, got: &[u8], expected: &[u8], n: usize) -> u64
+fn agreeing(
+    rt: &impl Print,
+    v: u64,
+    p: Part,
+    got: &[u8],
+    expected: &[u8],
+    n: usize,
+) -> io::Result<u64>
     requires { (16 * n ≤ length got.now) × (16 * n ≤ length expected.now) }
 {
     let mut agreed: u64 = 0;
-    let mut i = 0;
-    while i < n {
+    for i in 0..n {
         let x = words::load(got, 16 * i);
         let y = words::load(expected, 16 * place(p, i, n));
-        i += 1;
         if words::same(x, y) {
             agreed += 1;
         } else {
-            difference(v, p, i, x, y);
+            difference(rt, v, p, i + 1, x, y)?;
         }
     }
-    agreed
+    Ok(agreed)
 }
 
 // The key's first half goes into R1 at the end of step 15 of a start.
@@ -88,19 +101,16 @@ fn initialisation(key: [u8; 32], iv: [u8; 16]) -> [u8; 256] {
     let high = words::load(&key, 16);
     let mut out = [0u8; 256];
     let mut s = start::load(low, high, words::load(&iv, 0), Mode::Plain);
-    let mut i = 0;
-    while i < 16 {
+    for i in 0..16 {
         words::store(&mut out, 16 * i, first_block(s));
-        i += 1;
-        let u = after_step(start::initials(s, 1, &rounds), low, i);
-        s = u;
+        s = after_step(start::initials(s, 1, &rounds), low, i + 1);
     }
     out
 }
 
-pub fn tally(agreed: u64, of: u64) {
-    report::number(agreed);
-    report::labelled(b" of ", of);
+pub fn tally(rt: &impl Print, agreed: u64, of: u64) -> io::Result<()> {
+    report::number(rt, agreed)?;
+    report::labelled(rt, b" of ", of)
 }
 
 fn started(key: [u8; 32], iv: [u8; 16]) -> State {
@@ -145,14 +155,10 @@ fn steps(s: State, out: &mut [u8], back: bool) -> State
     ensures { length out.new ≡ length out.old }
 {
     let mut t = s;
-    let mut i = 0;
-    while i < 8 {
+    for i in 0..8 {
         let w = step(t, back);
-        let u = w.state;
-        let d = w.drawn;
-        t = u;
-        words::store(out, 16 * i, block(d));
-        i += 1;
+        t = w.state;
+        words::store(out, 16 * i, block(w.drawn));
     }
     t
 }
@@ -176,41 +182,53 @@ struct Agreed {
 }
 
 // Eight blocks forward, and from there back.
-fn keystream(v: u64, key: [u8; 32], iv: [u8; 16], expected: &[u8], stepwise: bool) -> Agreed
+fn keystream(
+    rt: &impl Print,
+    v: u64,
+    key: [u8; 32],
+    iv: [u8; 16],
+    expected: &[u8],
+    stepwise: bool,
+) -> io::Result<Agreed>
     requires { 128 ≤ length expected.now }
 {
     let mut out = [0u8; 128];
     let e = eight(started(key, iv), &mut out, false, stepwise);
-    let forward = agreeing(v, Part::Keystream, &out, expected, 8);
+    let forward = agreeing(rt, v, Part::Keystream, &out, expected, 8)?;
     eight(e, &mut out, true, stepwise);
-    let back = agreeing(v, Part::Back, &out, expected, 8);
-    Agreed {
-        forward: forward,
-        back: back,
-    }
+    let back = agreeing(rt, v, Part::Back, &out, expected, 8)?;
+    Ok(Agreed { forward, back })
 }
 
 // Vector number v: three lines, below one for each block that differs.
-pub fn vector(v: u64, key: [u8; 32], iv: [u8; 16], initial: [u8; 256], blocks: [u8; 128]) {
+pub fn vector(
+    rt: &impl Print,
+    v: u64,
+    key: [u8; 32],
+    iv: [u8; 16],
+    initial: [u8; 256],
+    blocks: [u8; 128],
+) -> io::Result<()> {
     let got = initialisation(key, iv);
-    let agreed = agreeing(v, Part::Initialisation, &got, &initial, 16);
-    let r = keystream(v, key, iv, &blocks, false);
-    let w = keystream(v, key, iv, &blocks, true);
-    report::labelled(b"SNOW-V ", v);
-    report::text(b": ");
-    tally(agreed, 16);
-    report::text(b" initialisation blocks agree, ");
-    tally(r.forward, 8);
-    report::labelled(b" keystream blocks agree\nSNOW-V ", v);
-    report::text(b" back: ");
-    tally(r.back, 8);
+    let agreed = agreeing(rt, v, Part::Initialisation, &got, &initial, 16)?;
+    let r = keystream(rt, v, key, iv, &blocks, false)?;
+    let w = keystream(rt, v, key, iv, &blocks, true)?;
+    report::labelled(rt, b"SNOW-V ", v)?;
+    report::text(rt, b": ")?;
+    tally(rt, agreed, 16)?;
+    report::text(rt, b" initialisation blocks agree, ")?;
+    tally(rt, r.forward, 8)?;
+    report::labelled(rt, b" keystream blocks agree\nSNOW-V ", v)?;
+    report::text(rt, b" back: ")?;
+    tally(rt, r.back, 8)?;
     report::labelled(
+        rt,
         b" keystream blocks agree, in the opposite order\nSNOW-V ",
         v,
-    );
-    report::text(b" step by step: ");
-    tally(w.forward, 8);
-    report::text(b" keystream blocks agree, back ");
-    tally(w.back, 8);
-    report::text(b"\n");
+    )?;
+    report::text(rt, b" step by step: ")?;
+    tally(rt, w.forward, 8)?;
+    report::text(rt, b" keystream blocks agree, back ")?;
+    tally(rt, w.back, 8)?;
+    report::text(rt, b"\n")
 }
