@@ -2,163 +2,188 @@
 // a good one.
 #![tactic(auto)]
 
-use libc::STDOUT_FILENO;
+use std::io;
 
-fn show(name: &[u8], input: &[u8]) {
-    io::write_all(STDOUT_FILENO, name);
+fn show(rt: &impl Print, name: &str, input: &[u8]) -> io::Result<()> {
+    rt.print(name)?;
     let mut out = [0u8; command::MOST_OUTPUT];
     let k = command::answer(input, &mut out);
-    io::write_all(STDOUT_FILENO, &out[..k]);
+    rt.write_all(&out[..k])
 }
 
 // The paper's SNOW-V-GCM vector 5, and lines of no digits.
-fn good() {
+fn good(rt: &impl Print) -> io::Result<()> {
     show(
-        b"vector 5: ",
+        rt,
+        "vector 5: ",
         b"505152535455565758595a5b5c5d5e5f0a1a2a3a4a5a6a7a8a9aaabacadaeafa\n0123456789abcdeffedcba9876543210\n\n30313233343536373839\n",
-    );
+    )?;
     show(
-        b"with data: ",
+        rt,
+        "with data: ",
         b"505152535455565758595a5b5c5d5e5f0a1a2a3a4a5a6a7a8a9aaabacadaeafa\n0123456789abcdeffedcba9876543210\n00ff\n30313233343536373839\n",
-    );
+    )?;
     show(
-        b"no text: ",
+        rt,
+        "no text: ",
         b"505152535455565758595a5b5c5d5e5f0a1a2a3a4a5a6a7a8a9aaabacadaeafa\n0123456789abcdeffedcba9876543210\n\n\n",
-    );
+    )
 }
 
 // Too few lines, or something after the fourth.
-fn unended() {
-    show(b"empty: ", b"");
-    show(b"one byte 0a: ", b"\n");
+fn unended(rt: &impl Print) -> io::Result<()> {
+    show(rt, "empty: ", b"")?;
+    show(rt, "one byte 0a: ", b"\n")?;
     show(
-        b"three lines: ",
+        rt,
+        "three lines: ",
         b"505152535455565758595a5b5c5d5e5f0a1a2a3a4a5a6a7a8a9aaabacadaeafa\n0123456789abcdeffedcba9876543210\n\n",
-    );
+    )?;
     show(
-        b"fourth line not ended: ",
+        rt,
+        "fourth line not ended: ",
         b"505152535455565758595a5b5c5d5e5f0a1a2a3a4a5a6a7a8a9aaabacadaeafa\n0123456789abcdeffedcba9876543210\n\n30313233343536373839",
-    );
+    )?;
     show(
-        b"fifth line: ",
+        rt,
+        "fifth line: ",
         b"505152535455565758595a5b5c5d5e5f0a1a2a3a4a5a6a7a8a9aaabacadaeafa\n0123456789abcdeffedcba9876543210\n\n30313233343536373839\n\n",
-    );
+    )?;
     show(
-        b"a byte after: ",
+        rt,
+        "a byte after: ",
         b"505152535455565758595a5b5c5d5e5f0a1a2a3a4a5a6a7a8a9aaabacadaeafa\n0123456789abcdeffedcba9876543210\n\n30313233343536373839\n0",
-    );
+    )?;
     show(
-        b"empty line in front: ",
+        rt,
+        "empty line in front: ",
         b"\n505152535455565758595a5b5c5d5e5f0a1a2a3a4a5a6a7a8a9aaabacadaeafa\n0123456789abcdeffedcba9876543210\n\n30313233343536373839\n",
-    );
+    )
 }
 
 // Bytes that are no lower-case digits, those beside the digits' ranges among them; an odd number of digits.
-fn digits() {
+fn digits(rt: &impl Print) -> io::Result<()> {
     show(
-        b"upper case: ",
+        rt,
+        "upper case: ",
         b"505152535455565758595A5b5c5d5e5f0a1a2a3a4a5a6a7a8a9aaabacadaeafa\n0123456789abcdeffedcba9876543210\n\n30313233343536373839\n",
-    );
+    )?;
     show(
-        b"carriage return: ",
+        rt,
+        "carriage return: ",
         b"505152535455565758595a5b5c5d5e5f0a1a2a3a4a5a6a7a8a9aaabacadaeafa\n0123456789abcdeffedcba9876543210\n\n30313233343536373839\r\n",
-    );
+    )?;
     show(
-        b"space: ",
+        rt,
+        "space: ",
         b"505152535455565758595a5b5c5d5e5f0a1a2a3a4a5a6a7a8a9aaabacadaeafa\n0123456789abcdeffedcba9876543210\n\n30313233343536373839 0\n",
-    );
+    )?;
     show(
-        b"byte 2f: ",
+        rt,
+        "byte 2f: ",
         b"505152535455565758595a5b5c5d5e5f0a1a2a3a4a5a6a7a8a9aaabacadaeafa\n0123456789abcdeffedcba9876543210\n\n303132333435363738390/\n",
-    );
+    )?;
     show(
-        b"byte 3a: ",
+        rt,
+        "byte 3a: ",
         b"505152535455565758595a5b5c5d5e5f0a1a2a3a4a5a6a7a8a9aaabacadaeafa\n0123456789abcdeffedcba9876543210\n\n303132333435363738390:\n",
-    );
+    )?;
     show(
-        b"byte 60: ",
+        rt,
+        "byte 60: ",
         b"505152535455565758595a5b5c5d5e5f0a1a2a3a4a5a6a7a8a9aaabacadaeafa\n0123456789abcdeffedcba9876543210\n\n303132333435363738390`\n",
-    );
+    )?;
     show(
-        b"byte 67: ",
+        rt,
+        "byte 67: ",
         b"505152535455565758595a5b5c5d5e5f0a1a2a3a4a5a6a7a8a9aaabacadaeafa\n0123456789abcdeffedcba9876543210\n\n303132333435363738390g\n",
-    );
+    )?;
     show(
-        b"byte 00: ",
+        rt,
+        "byte 00: ",
         b"505152535455565758595a5b5c5d5e5f0a1a2a3a4a5a6a7a8a9aaabacadaeafa\n0123456789abcdeffedcba9876543210\n\n303132333435363738390\x00\n",
-    );
+    )?;
     show(
-        b"byte ff: ",
+        rt,
+        "byte ff: ",
         b"505152535455565758595a5b5c5d5e5f0a1a2a3a4a5a6a7a8a9aaabacadaeafa\n0123456789abcdeffedcba9876543210\n\n303132333435363738390\xff\n",
-    );
+    )?;
     show(
-        b"odd text: ",
+        rt,
+        "odd text: ",
         b"505152535455565758595a5b5c5d5e5f0a1a2a3a4a5a6a7a8a9aaabacadaeafa\n0123456789abcdeffedcba9876543210\n\n303132333435363738390\n",
-    );
+    )?;
     show(
-        b"odd key: ",
+        rt,
+        "odd key: ",
         b"505152535455565758595a5b5c5d5e5f0a1a2a3a4a5a6a7a8a9aaabacadaeaf\n0123456789abcdeffedcba9876543210\n\n30313233343536373839\n",
-    );
+    )
 }
 
 // Four well-formed lines that a seal refuses.
-fn refused() {
+fn refused(rt: &impl Print) -> io::Result<()> {
     show(
-        b"key of 31 bytes: ",
+        rt,
+        "key of 31 bytes: ",
         b"505152535455565758595a5b5c5d5e5f0a1a2a3a4a5a6a7a8a9aaabacadaea\n0123456789abcdeffedcba9876543210\n\n30313233343536373839\n",
-    );
+    )?;
     show(
-        b"key of 33 bytes: ",
+        rt,
+        "key of 33 bytes: ",
         b"505152535455565758595a5b5c5d5e5f0a1a2a3a4a5a6a7a8a9aaabacadaeafa00\n0123456789abcdeffedcba9876543210\n\n30313233343536373839\n",
-    );
+    )?;
     show(
-        b"no key: ",
+        rt,
+        "no key: ",
         b"\n0123456789abcdeffedcba9876543210\n\n30313233343536373839\n",
-    );
+    )?;
     show(
-        b"IV of 15 bytes: ",
+        rt,
+        "IV of 15 bytes: ",
         b"505152535455565758595a5b5c5d5e5f0a1a2a3a4a5a6a7a8a9aaabacadaeafa\n0123456789abcdeffedcba98765432\n\n30313233343536373839\n",
-    );
+    )?;
     show(
-        b"IV of 17 bytes: ",
+        rt,
+        "IV of 17 bytes: ",
         b"505152535455565758595a5b5c5d5e5f0a1a2a3a4a5a6a7a8a9aaabacadaeafa\n0123456789abcdeffedcba987654321000\n\n30313233343536373839\n",
-    );
-    show(b"key and IV: ", b"\n\n\n30313233343536373839\n");
+    )?;
+    show(rt, "key and IV: ", b"\n\n\n30313233343536373839\n")?;
     show(
-        b"malformed first: ",
+        rt,
+        "malformed first: ",
         b"\n0123456789abcdeffedcba9876543210\n\n0\n",
-    );
+    )
 }
 
 // A text of 8,192 digits and one of 8,194, with a key and an IV of zeros.
-fn long_text() {
+fn long_text(rt: &impl Print) -> io::Result<()> {
     let mut input = [b'0'; 8294];
     input[64] = b'\n';
     input[97] = b'\n';
     input[98] = b'\n';
     input[8291] = b'\n';
-    show(b"8,192 digits: ", &input[..8292]);
+    show(rt, "8,192 digits: ", &input[..8292])?;
     input[8291] = b'0';
     input[8293] = b'\n';
-    show(b"8,194 digits: ", &input[..8294]);
+    show(rt, "8,194 digits: ", &input[..8294])
 }
 
 // Four lines of 8,192 digits, which are too long for a key but well formed, and one byte more.
-fn longest() {
+fn longest(rt: &impl Print) -> io::Result<()> {
     let mut input = [b'0'; 32773];
     input[8192] = b'\n';
     input[16385] = b'\n';
     input[24578] = b'\n';
     input[32771] = b'\n';
-    show(b"longest input: ", &input[..32772]);
-    show(b"longer input: ", &input[..32773]);
+    show(rt, "longest input: ", &input[..32772])?;
+    show(rt, "longer input: ", &input[..32773])
 }
 
-fn main() {
-    good();
-    unended();
-    digits();
-    refused();
-    longest();
-    long_text();
+fn main(rt: HostRuntime) -> io::Result<()> {
+    good(&rt)?;
+    unended(&rt)?;
+    digits(&rt)?;
+    refused(&rt)?;
+    longest(&rt)?;
+    long_text(&rt)
 }
