@@ -1,5 +1,4 @@
 // What the program writes: text, numbers and bytes in hex.
-
 use std::io;
 
 pub fn text(rt: &impl Print, t: &str) -> io::Result<()> {
