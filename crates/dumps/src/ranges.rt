@@ -4,23 +4,23 @@ use std::io;
 
 pub fn under(
     rt: &impl Print,
-    label: &str,
+    label: &[u8],
     bytes: &[u8],
     key: &[u8],
     lowest: u64,
     highest: u64,
 ) -> io::Result<()> {
     report::text(rt, label)?;
-    report::number(rt, ", ", lowest)?;
-    report::number(rt, " to ", highest)?;
-    report::text(rt, ": ")?;
+    report::number(rt, b", ", lowest)?;
+    report::number(rt, b" to ", highest)?;
+    report::text(rt, b": ")?;
     report::searched(rt, search::search(bytes, key, lowest, highest))?;
-    report::text(rt, "\n")
+    report::text(rt, b"\n")
 }
 
 pub fn line(
     rt: &impl Print,
-    label: &str,
+    label: &[u8],
     bytes: &[u8],
     lowest: u64,
     highest: u64,

@@ -3,13 +3,14 @@ use search::{Located, Refusal, Searched};
 use start::Mode;
 use std::io;
 
-pub fn text(rt: &impl Print, t: &str) -> io::Result<()> {
-    rt.print(t)
+pub fn text(rt: &impl Print, t: &[u8]) -> io::Result<()> {
+    rt.write_all(t)
 }
 
 // A number, behind what is said of it.
-pub fn number(rt: &impl Print, label: &str, n: u64) -> io::Result<()> {
-    print!(rt; "{label}{n}")
+pub fn number(rt: &impl Print, label: &[u8], n: u64) -> io::Result<()> {
+    text(rt, label)?;
+    rt.print(n)
 }
 
 // The low byte of a word.
@@ -32,29 +33,29 @@ fn half(rt: &impl Print, x: u64) -> io::Result<()> {
 
 fn mode(rt: &impl Print, m: Mode) -> io::Result<()> {
     match m {
-        Mode::Plain => text(rt, "plain mode"),
-        Mode::Sealed => text(rt, "sealed mode"),
+        Mode::Plain => text(rt, b"plain mode"),
+        Mode::Sealed => text(rt, b"sealed mode"),
     }
 }
 
 fn walked(rt: &impl Print, steps: u64) -> io::Result<()> {
-    number(rt, ", ", steps)?;
-    text(rt, " steps")
+    number(rt, b", ", steps)?;
+    text(rt, b" steps")
 }
 
 fn found(rt: &impl Print, l: Located) -> io::Result<()> {
-    number(rt, "count ", l.count)?;
-    text(rt, ", IV ")?;
+    number(rt, b"count ", l.count)?;
+    text(rt, b", IV ")?;
     half(rt, l.lo)?;
     half(rt, l.hi)?;
-    text(rt, ", ")?;
+    text(rt, b", ")?;
     let m = l.mode;
     mode(rt, m)?;
     walked(rt, l.steps)
 }
 
 fn refused(rt: &impl Print, r: Refusal) -> io::Result<()> {
-    number(rt, "refused ", r.number)?;
+    number(rt, b"refused ", r.number)?;
     walked(rt, r.steps)
 }
 

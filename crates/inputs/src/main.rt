@@ -4,8 +4,8 @@
 
 use std::io;
 
-fn show(rt: &impl Print, name: &str, input: &[u8]) -> io::Result<()> {
-    rt.print(name)?;
+fn show(rt: &impl Print, name: &[u8], input: &[u8]) -> io::Result<()> {
+    rt.write_all(name)?;
     let mut out = [0u8; command::MOST_OUTPUT];
     let k = command::answer(input, &mut out);
     rt.write_all(&out[..k])
@@ -15,48 +15,48 @@ fn show(rt: &impl Print, name: &str, input: &[u8]) -> io::Result<()> {
 fn good(rt: &impl Print) -> io::Result<()> {
     show(
         rt,
-        "vector 5: ",
+        b"vector 5: ",
         b"505152535455565758595a5b5c5d5e5f0a1a2a3a4a5a6a7a8a9aaabacadaeafa\n0123456789abcdeffedcba9876543210\n\n30313233343536373839\n",
     )?;
     show(
         rt,
-        "with data: ",
+        b"with data: ",
         b"505152535455565758595a5b5c5d5e5f0a1a2a3a4a5a6a7a8a9aaabacadaeafa\n0123456789abcdeffedcba9876543210\n00ff\n30313233343536373839\n",
     )?;
     show(
         rt,
-        "no text: ",
+        b"no text: ",
         b"505152535455565758595a5b5c5d5e5f0a1a2a3a4a5a6a7a8a9aaabacadaeafa\n0123456789abcdeffedcba9876543210\n\n\n",
     )
 }
 
 // Too few lines, or something after the fourth.
 fn unended(rt: &impl Print) -> io::Result<()> {
-    show(rt, "empty: ", b"")?;
-    show(rt, "one byte 0a: ", b"\n")?;
+    show(rt, b"empty: ", b"")?;
+    show(rt, b"one byte 0a: ", b"\n")?;
     show(
         rt,
-        "three lines: ",
+        b"three lines: ",
         b"505152535455565758595a5b5c5d5e5f0a1a2a3a4a5a6a7a8a9aaabacadaeafa\n0123456789abcdeffedcba9876543210\n\n",
     )?;
     show(
         rt,
-        "fourth line not ended: ",
+        b"fourth line not ended: ",
         b"505152535455565758595a5b5c5d5e5f0a1a2a3a4a5a6a7a8a9aaabacadaeafa\n0123456789abcdeffedcba9876543210\n\n30313233343536373839",
     )?;
     show(
         rt,
-        "fifth line: ",
+        b"fifth line: ",
         b"505152535455565758595a5b5c5d5e5f0a1a2a3a4a5a6a7a8a9aaabacadaeafa\n0123456789abcdeffedcba9876543210\n\n30313233343536373839\n\n",
     )?;
     show(
         rt,
-        "a byte after: ",
+        b"a byte after: ",
         b"505152535455565758595a5b5c5d5e5f0a1a2a3a4a5a6a7a8a9aaabacadaeafa\n0123456789abcdeffedcba9876543210\n\n30313233343536373839\n0",
     )?;
     show(
         rt,
-        "empty line in front: ",
+        b"empty line in front: ",
         b"\n505152535455565758595a5b5c5d5e5f0a1a2a3a4a5a6a7a8a9aaabacadaeafa\n0123456789abcdeffedcba9876543210\n\n30313233343536373839\n",
     )
 }
@@ -65,57 +65,57 @@ fn unended(rt: &impl Print) -> io::Result<()> {
 fn digits(rt: &impl Print) -> io::Result<()> {
     show(
         rt,
-        "upper case: ",
+        b"upper case: ",
         b"505152535455565758595A5b5c5d5e5f0a1a2a3a4a5a6a7a8a9aaabacadaeafa\n0123456789abcdeffedcba9876543210\n\n30313233343536373839\n",
     )?;
     show(
         rt,
-        "carriage return: ",
+        b"carriage return: ",
         b"505152535455565758595a5b5c5d5e5f0a1a2a3a4a5a6a7a8a9aaabacadaeafa\n0123456789abcdeffedcba9876543210\n\n30313233343536373839\r\n",
     )?;
     show(
         rt,
-        "space: ",
+        b"space: ",
         b"505152535455565758595a5b5c5d5e5f0a1a2a3a4a5a6a7a8a9aaabacadaeafa\n0123456789abcdeffedcba9876543210\n\n30313233343536373839 0\n",
     )?;
     show(
         rt,
-        "byte 2f: ",
+        b"byte 2f: ",
         b"505152535455565758595a5b5c5d5e5f0a1a2a3a4a5a6a7a8a9aaabacadaeafa\n0123456789abcdeffedcba9876543210\n\n303132333435363738390/\n",
     )?;
     show(
         rt,
-        "byte 3a: ",
+        b"byte 3a: ",
         b"505152535455565758595a5b5c5d5e5f0a1a2a3a4a5a6a7a8a9aaabacadaeafa\n0123456789abcdeffedcba9876543210\n\n303132333435363738390:\n",
     )?;
     show(
         rt,
-        "byte 60: ",
+        b"byte 60: ",
         b"505152535455565758595a5b5c5d5e5f0a1a2a3a4a5a6a7a8a9aaabacadaeafa\n0123456789abcdeffedcba9876543210\n\n303132333435363738390`\n",
     )?;
     show(
         rt,
-        "byte 67: ",
+        b"byte 67: ",
         b"505152535455565758595a5b5c5d5e5f0a1a2a3a4a5a6a7a8a9aaabacadaeafa\n0123456789abcdeffedcba9876543210\n\n303132333435363738390g\n",
     )?;
     show(
         rt,
-        "byte 00: ",
+        b"byte 00: ",
         b"505152535455565758595a5b5c5d5e5f0a1a2a3a4a5a6a7a8a9aaabacadaeafa\n0123456789abcdeffedcba9876543210\n\n303132333435363738390\x00\n",
     )?;
     show(
         rt,
-        "byte ff: ",
+        b"byte ff: ",
         b"505152535455565758595a5b5c5d5e5f0a1a2a3a4a5a6a7a8a9aaabacadaeafa\n0123456789abcdeffedcba9876543210\n\n303132333435363738390\xff\n",
     )?;
     show(
         rt,
-        "odd text: ",
+        b"odd text: ",
         b"505152535455565758595a5b5c5d5e5f0a1a2a3a4a5a6a7a8a9aaabacadaeafa\n0123456789abcdeffedcba9876543210\n\n303132333435363738390\n",
     )?;
     show(
         rt,
-        "odd key: ",
+        b"odd key: ",
         b"505152535455565758595a5b5c5d5e5f0a1a2a3a4a5a6a7a8a9aaabacadaeaf\n0123456789abcdeffedcba9876543210\n\n30313233343536373839\n",
     )
 }
@@ -124,33 +124,33 @@ fn digits(rt: &impl Print) -> io::Result<()> {
 fn refused(rt: &impl Print) -> io::Result<()> {
     show(
         rt,
-        "key of 31 bytes: ",
+        b"key of 31 bytes: ",
         b"505152535455565758595a5b5c5d5e5f0a1a2a3a4a5a6a7a8a9aaabacadaea\n0123456789abcdeffedcba9876543210\n\n30313233343536373839\n",
     )?;
     show(
         rt,
-        "key of 33 bytes: ",
+        b"key of 33 bytes: ",
         b"505152535455565758595a5b5c5d5e5f0a1a2a3a4a5a6a7a8a9aaabacadaeafa00\n0123456789abcdeffedcba9876543210\n\n30313233343536373839\n",
     )?;
     show(
         rt,
-        "no key: ",
+        b"no key: ",
         b"\n0123456789abcdeffedcba9876543210\n\n30313233343536373839\n",
     )?;
     show(
         rt,
-        "IV of 15 bytes: ",
+        b"IV of 15 bytes: ",
         b"505152535455565758595a5b5c5d5e5f0a1a2a3a4a5a6a7a8a9aaabacadaeafa\n0123456789abcdeffedcba98765432\n\n30313233343536373839\n",
     )?;
     show(
         rt,
-        "IV of 17 bytes: ",
+        b"IV of 17 bytes: ",
         b"505152535455565758595a5b5c5d5e5f0a1a2a3a4a5a6a7a8a9aaabacadaeafa\n0123456789abcdeffedcba987654321000\n\n30313233343536373839\n",
     )?;
-    show(rt, "key and IV: ", b"\n\n\n30313233343536373839\n")?;
+    show(rt, b"key and IV: ", b"\n\n\n30313233343536373839\n")?;
     show(
         rt,
-        "malformed first: ",
+        b"malformed first: ",
         b"\n0123456789abcdeffedcba9876543210\n\n0\n",
     )
 }
@@ -162,10 +162,10 @@ fn long_text(rt: &impl Print) -> io::Result<()> {
     input[97] = b'\n';
     input[98] = b'\n';
     input[8291] = b'\n';
-    show(rt, "8,192 digits: ", &input[..8292])?;
+    show(rt, b"8,192 digits: ", &input[..8292])?;
     input[8291] = b'0';
     input[8293] = b'\n';
-    show(rt, "8,194 digits: ", &input[..8294])
+    show(rt, b"8,194 digits: ", &input[..8294])
 }
 
 // Four lines of 8,192 digits, which are too long for a key but well formed, and one byte more.
@@ -175,8 +175,8 @@ fn longest(rt: &impl Print) -> io::Result<()> {
     input[16385] = b'\n';
     input[24578] = b'\n';
     input[32771] = b'\n';
-    show(rt, "longest input: ", &input[..32772])?;
-    show(rt, "longer input: ", &input[..32773])
+    show(rt, b"longest input: ", &input[..32772])?;
+    show(rt, b"longer input: ", &input[..32773])
 }
 
 fn main(rt: HostRuntime) -> io::Result<()> {

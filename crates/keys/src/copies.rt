@@ -17,7 +17,7 @@ pub fn store(
 {
     let mut copy = kept;
     let n = calls::store(5, key, iv, stay_key, &mut copy[0..length]);
-    report::number(rt, "store ", n)
+    report::number(rt, b"store ", n)
 }
 
 pub fn fetch(
@@ -30,7 +30,7 @@ pub fn fetch(
     requires { (key ≤ 32) × (iv ≤ 16) × (length ≤ 2048) }
 {
     let f = calls::fetch(1, key, iv, &kept[0..length]);
-    report::number(rt, " fetch ", f.answer)
+    report::number(rt, b" fetch ", f.answer)
 }
 
 pub fn erase(rt: &impl Print, iv: usize, kept: [u8; 2048], length: usize) -> io::Result<()>
@@ -38,15 +38,15 @@ pub fn erase(rt: &impl Print, iv: usize, kept: [u8; 2048], length: usize) -> io:
 {
     let mut copy = kept;
     let n = calls::erase(1, iv, &mut copy[0..length]);
-    report::number(rt, " erase ", n)
+    report::number(rt, b" erase ", n)
 }
 
-pub fn line(rt: &impl Print, label: &str, kept: [u8; 2048], length: usize) -> io::Result<()>
+pub fn line(rt: &impl Print, label: &[u8], kept: [u8; 2048], length: usize) -> io::Result<()>
     requires { length ≤ 2048 }
 {
     report::text(rt, label)?;
     store(rt, 32, 16, 32, kept, length)?;
     fetch(rt, 32, 16, kept, length)?;
     erase(rt, 16, kept, length)?;
-    report::text(rt, "\n")
+    report::text(rt, b"\n")
 }

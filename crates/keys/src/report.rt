@@ -1,19 +1,20 @@
 // What the program writes: text, numbers and bytes in hex.
 use std::io;
 
-pub fn text(rt: &impl Print, t: &str) -> io::Result<()> {
-    rt.print(t)
+pub fn text(rt: &impl Print, t: &[u8]) -> io::Result<()> {
+    rt.write_all(t)
 }
 
 // A number, behind what is said of it.
-pub fn number(rt: &impl Print, label: &str, n: u64) -> io::Result<()> {
-    print!(rt; "{label}{n}")
+pub fn number(rt: &impl Print, label: &[u8], n: u64) -> io::Result<()> {
+    text(rt, label)?;
+    rt.print(n)
 }
 
 // What a call about stay n answers with.
-pub fn answer(rt: &impl Print, call: &str, n: u8, answer: u64) -> io::Result<()> {
+pub fn answer(rt: &impl Print, call: &[u8], n: u8, answer: u64) -> io::Result<()> {
     number(rt, call, n as u64)?;
-    number(rt, ": ", answer)
+    number(rt, b": ", answer)
 }
 
 pub fn hex(rt: &impl Print, s: &[u8]) -> io::Result<()> {

@@ -5,32 +5,32 @@ use crate::{calls, report, season};
 use std::io;
 
 fn store(rt: &impl Print, n: u8, kept: &mut [u8]) -> io::Result<()> {
-    report::answer(rt, "store ", n, calls::store(n, 32, 16, 32, kept))?;
-    report::text(rt, "\n")
+    report::answer(rt, b"store ", n, calls::store(n, 32, 16, 32, kept))?;
+    report::text(rt, b"\n")
 }
 
 fn fetch(rt: &impl Print, n: u8, kept: &[u8]) -> io::Result<()> {
     let f = calls::fetch(n, 32, 16, kept);
     let key = f.key;
-    report::answer(rt, "fetch ", n, f.answer)?;
+    report::answer(rt, b"fetch ", n, f.answer)?;
     if f.answer == 0 {
-        report::text(rt, " ")?;
+        report::text(rt, b" ")?;
         report::hex(rt, &key)?;
     }
-    report::text(rt, "\n")
+    report::text(rt, b"\n")
 }
 
 fn fetch_under_another_key(rt: &impl Print, kept: &[u8]) -> io::Result<()> {
     let key = season::OTHER_KEY;
     let iv = season::iv(2);
     let f = key_store::fetch(&key, &iv, kept);
-    report::number(rt, "fetch 2 under another key: ", f.answer)?;
-    report::text(rt, "\n")
+    report::number(rt, b"fetch 2 under another key: ", f.answer)?;
+    report::text(rt, b"\n")
 }
 
 fn erase(rt: &impl Print, n: u8, kept: &mut [u8]) -> io::Result<()> {
-    report::answer(rt, "erase ", n, calls::erase(n, 16, kept))?;
-    report::text(rt, "\n")
+    report::answer(rt, b"erase ", n, calls::erase(n, 16, kept))?;
+    report::text(rt, b"\n")
 }
 
 // Three keys, and one that is there already.
@@ -72,12 +72,12 @@ fn block(rt: &impl Print, kept: [u8; 2048], j: usize) -> io::Result<()>
     requires { j < 4 }
 {
     let at = 512 * j;
-    report::number(rt, "block ", j as u64)?;
-    report::text(rt, ": ")?;
+    report::number(rt, b"block ", j as u64)?;
+    report::text(rt, b": ")?;
     report::hex(rt, &kept[at..at + 80])?;
-    report::text(rt, " ")?;
+    report::text(rt, b" ")?;
     report::hex(rt, &kept[at + 508..at + 512])?;
-    report::text(rt, "\n")
+    report::text(rt, b"\n")
 }
 
 pub fn print(rt: &impl Print, kept: [u8; 2048]) -> io::Result<()> {

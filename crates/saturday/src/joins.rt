@@ -21,15 +21,15 @@ pub fn join(rt: &impl Print, s: &mut [u8; 8208], rests: &mut [u8; 256], i: u8) -
         let first = i % 33;
         rests[first as usize] = first;
     }
-    report::number(rt, "join ", i as u64)?;
-    report::number(rt, " of ", text)?;
-    report::answer(rt, "", n)
+    report::number(rt, b"join ", i as u64)?;
+    report::number(rt, b" of ", text)?;
+    report::answer(rt, b"", n)
 }
 
 // What stay 32 is answered.
 pub fn with(
     rt: &impl Print,
-    label: &str,
+    label: &[u8],
     s: &mut [u8],
     n: usize,
     key: usize,
@@ -39,24 +39,24 @@ pub fn with(
     requires { (n ≤ length s.old) × (key ≤ 33) × (iv ≤ 17) }
 {
     let answer = call(s, n, 32, key, iv, text);
-    report::text(rt, "join with ")?;
+    report::text(rt, b"join with ")?;
     report::answer(rt, label, answer)
 }
 
 pub fn without_text(rt: &impl Print, s: &mut [u8; 8208]) -> io::Result<()> {
-    with(rt, "no text", s, 8208, 32, 16, 0)
+    with(rt, b"no text", s, 8208, 32, 16, 0)
 }
 
 // Each for one length, and then for more: the first in the order 8, 1, 2, 3 is what is answered.
 pub fn refused(rt: &impl Print, s: &mut [u8; 8208]) -> io::Result<()> {
-    with(rt, "8207 bytes of a scheduler", s, 8207, 32, 16, 1)?;
-    with(rt, "a key of 31 bytes", s, 8208, 31, 16, 1)?;
-    with(rt, "a key of 33 bytes", s, 8208, 33, 16, 1)?;
-    with(rt, "an IV of 15 bytes", s, 8208, 32, 15, 1)?;
-    with(rt, "an IV of 17 bytes", s, 8208, 32, 17, 1)?;
+    with(rt, b"8207 bytes of a scheduler", s, 8207, 32, 16, 1)?;
+    with(rt, b"a key of 31 bytes", s, 8208, 31, 16, 1)?;
+    with(rt, b"a key of 33 bytes", s, 8208, 33, 16, 1)?;
+    with(rt, b"an IV of 15 bytes", s, 8208, 32, 15, 1)?;
+    with(rt, b"an IV of 17 bytes", s, 8208, 32, 17, 1)?;
     without_text(rt, s)?;
-    with(rt, "a text of 1048577 bytes", s, 8208, 32, 16, 1048577)?;
-    with(rt, "all four", s, 8207, 31, 15, 0)?;
-    with(rt, "the last three", s, 8208, 31, 15, 0)?;
-    with(rt, "the last two", s, 8208, 32, 15, 0)
+    with(rt, b"a text of 1048577 bytes", s, 8208, 32, 16, 1048577)?;
+    with(rt, b"all four", s, 8207, 31, 15, 0)?;
+    with(rt, b"the last three", s, 8208, 31, 15, 0)?;
+    with(rt, b"the last two", s, 8208, 32, 15, 0)
 }

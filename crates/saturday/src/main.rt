@@ -15,12 +15,12 @@ use std::io;
 
 // What has left has left no byte behind the head.
 fn left_behind(rt: &impl Print, s: [u8; 8208]) -> io::Result<()> {
-    report::text(rt, "head: ")?;
+    report::text(rt, b"head: ")?;
     report::hex(rt, &s[0..16])?;
     if fields::all_zero(&s, 16, 8192) {
-        report::text(rt, "\nnot zero behind it: 0\n")
+        report::text(rt, b"\nnot zero behind it: 0\n")
     } else {
-        report::text(rt, "\nnot zero behind it: some\n")
+        report::text(rt, b"\nnot zero behind it: some\n")
     }
 }
 

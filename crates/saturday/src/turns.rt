@@ -10,11 +10,11 @@ pub fn next(rt: &impl Print, s: &[u8; 8208]) -> io::Result<()> {
     let n = scheduler::next(s);
     if n.found {
         let iv = n.iv;
-        report::number(rt, "next: IV ", words::word_of(iv[0]) as u64)?;
-        report::number(rt, " due ", n.due)?;
-        report::text(rt, "\n")
+        report::number(rt, b"next: IV ", words::word_of(iv[0]) as u64)?;
+        report::number(rt, b" due ", n.due)?;
+        report::text(rt, b"\n")
     } else {
-        report::text(rt, "next: nobody\n")
+        report::text(rt, b"next: nobody\n")
     }
 }
 
@@ -32,23 +32,23 @@ fn numbered(rt: &impl Print, t: Turned, out: [u8; 4096], length: u64) -> io::Res
     let iv = t.iv;
     let tag = t.tag;
     let n = at_most(8, length);
-    report::number(rt, "turn ", t.turn)?;
-    report::number(rt, ": IV ", words::word_of(iv[0]) as u64)?;
-    report::number(rt, " done ", t.done as u64)?;
-    report::text(rt, " ")?;
+    report::number(rt, b"turn ", t.turn)?;
+    report::number(rt, b": IV ", words::word_of(iv[0]) as u64)?;
+    report::number(rt, b" done ", t.done as u64)?;
+    report::text(rt, b" ")?;
     report::hex(rt, &out[0..n])?;
     if t.done {
-        report::text(rt, " tag ")?;
+        report::text(rt, b" tag ")?;
         report::hex(rt, &tag)?;
     }
-    report::text(rt, "\n")
+    report::text(rt, b"\n")
 }
 
 fn unnumbered(rt: &impl Print, answer: u64) -> io::Result<()> {
     if answer == 0 {
-        report::text(rt, "turn: nobody\n")
+        report::text(rt, b"turn: nobody\n")
     } else {
-        report::answer(rt, "turn", answer)
+        report::answer(rt, b"turn", answer)
     }
 }
 

@@ -28,16 +28,16 @@ fn dropped(rt: &impl Print, file: [u8; 3584]) -> io::Result<()> {
     let b = with_page(a, 3, file, 4);
     let c = with_page(b, 4, file, 5);
     let d = with_page(c, 5, file, 6);
-    roll::roll_call(rt, "dropped", &d[0..3072])
+    roll::roll_call(rt, b"dropped", &d[0..3072])
 }
 
 fn moved(rt: &impl Print, file: [u8; 3584]) -> io::Result<()> {
     let own = swapped(file, 0, 2);
-    roll::roll_call(rt, "swapped", &own)?;
+    roll::roll_call(rt, b"swapped", &own)?;
     let foreign = swapped(file, 0, 1);
-    roll::roll_call(rt, "swapped with another stay's", &foreign)?;
+    roll::roll_call(rt, b"swapped with another stay's", &foreign)?;
     let doubled = with_page(file, 6, file, 0);
-    roll::roll_call(rt, "doubled", &doubled)
+    roll::roll_call(rt, b"doubled", &doubled)
 }
 
 // Page 1 of stay 1 on another day than the stay's other pages.
@@ -56,12 +56,12 @@ pub fn length_475(file: [u8; 3584]) -> [u8; 3584] {
 
 fn headers(rt: &impl Print, file: [u8; 3584]) -> io::Result<()> {
     let days = days_differ(file);
-    roll::roll_call(rt, "days differ", &days)?;
+    roll::roll_call(rt, b"days differ", &days)?;
     let long = length_475(file);
-    roll::roll_call(rt, "length 475", &long)?;
+    roll::roll_call(rt, b"length 475", &long)?;
     let mut late = file;
     fields::put(&mut late, 3088, 4, 73049);
-    roll::roll_call(rt, "day 73049", &late)
+    roll::roll_call(rt, b"day 73049", &late)
 }
 
 // A file with this tag in page 1 of stay 1.
@@ -105,14 +105,14 @@ pub fn flipped(file: [u8; 3584], b: usize) -> [u8; 3584]
 
 fn padding(rt: &impl Print, file: [u8; 3584]) -> io::Result<()> {
     let p = padded(file);
-    roll::roll_call(rt, "padding", &p)?;
+    roll::roll_call(rt, b"padding", &p)?;
     let q = flipped(p, 511);
-    roll::roll_call(rt, "padding, tag broken", &q)
+    roll::roll_call(rt, b"padding, tag broken", &q)
 }
 
 fn shortened(rt: &impl Print, file: [u8; 3584]) -> io::Result<()> {
-    roll::roll_call(rt, "511 bytes", &file[0..511])?;
-    roll::roll_call(rt, "0 bytes", b"")
+    roll::roll_call(rt, b"511 bytes", &file[0..511])?;
+    roll::roll_call(rt, b"0 bytes", b"")
 }
 
 pub fn roll_calls(rt: &impl Print, file: [u8; 3584]) -> io::Result<()> {
@@ -129,15 +129,15 @@ fn look_flipped(rt: &impl Print, file: [u8; 3584], b: usize) -> io::Result<()>
     let f = flipped(file, b);
     roll::look(rt, season::at(2), &f)?;
     if b % 32 == 31 {
-        report::text(rt, "\n")
+        report::text(rt, b"\n")
     } else {
-        report::text(rt, " ")
+        report::text(rt, b" ")
     }
 }
 
 // Each byte of page 1 of stay 1 in turn, 32 to a line.
 pub fn every_byte(rt: &impl Print, file: [u8; 3584]) -> io::Result<()> {
-    report::text(rt, "each byte of page 1.1 flipped:\n")?;
+    report::text(rt, b"each byte of page 1.1 flipped:\n")?;
     let mut b: usize = 0;
     while b < 512 {
         look_flipped(rt, file, b)?;

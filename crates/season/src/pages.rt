@@ -7,11 +7,11 @@ use std::io;
 
 fn seal(rt: &impl Print, file: &mut [u8], place: u64) -> io::Result<()> {
     let p = season::at(place);
-    report::text(rt, "seal ")?;
+    report::text(rt, b"seal ")?;
     report::number(rt, place)?;
-    report::text(rt, ": ")?;
+    report::text(rt, b": ")?;
     report::answer(rt, season::seal(p, season::departure(p.stay), file, place))?;
-    report::text(rt, "\n")
+    report::text(rt, b"\n")
 }
 
 // The season's file, from zeros.
@@ -31,11 +31,11 @@ fn page(rt: &impl Print, file: [u8; 3584], place: usize) -> io::Result<()>
 {
     let start = 512 * place;
     let end = start + 512;
-    report::text(rt, "page ")?;
+    report::text(rt, b"page ")?;
     report::number(rt, place as u64)?;
-    report::text(rt, ": ")?;
+    report::text(rt, b": ")?;
     report::hex(rt, &file[start..end])?;
-    report::text(rt, "\n")
+    report::text(rt, b"\n")
 }
 
 pub fn print(rt: &impl Print, file: [u8; 3584]) -> io::Result<()> {
@@ -50,9 +50,9 @@ pub fn print(rt: &impl Print, file: [u8; 3584]) -> io::Result<()> {
 
 // What an open of n bytes wrote.
 fn written(rt: &impl Print, out: [u8; 480], n: u64) -> io::Result<()> {
-    report::text(rt, "written ")?;
+    report::text(rt, b"written ")?;
     report::number(rt, n)?;
-    report::text(rt, " ")?;
+    report::text(rt, b" ")?;
     let k = n as usize;
     if k <= 480 {
         report::hex(rt, &out[0..k])?;
@@ -65,16 +65,16 @@ fn open(rt: &impl Print, file: [u8; 3584], place: u64) -> io::Result<()> {
     let key = season::key();
     let stay = season::stay(p.stay);
     let mut out = roll::fresh();
-    report::text(rt, "open ")?;
+    report::text(rt, b"open ")?;
     report::number(rt, p.stay as u64)?;
-    report::text(rt, ".")?;
+    report::text(rt, b".")?;
     report::number(rt, p.n as u64)?;
-    report::text(rt, ": ")?;
+    report::text(rt, b": ")?;
     match page_file::open(&key, &stay, p.n, &file, &mut out) {
         Opened::Written(n) => written(rt, out, n),
         Opened::Refused(n) => report::refusal(rt, n),
     }?;
-    report::text(rt, "\n")
+    report::text(rt, b"\n")
 }
 
 pub fn opens(rt: &impl Print, file: [u8; 3584]) -> io::Result<()> {

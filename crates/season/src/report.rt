@@ -3,13 +3,14 @@ ghost use Rattle.std.specs.Prelude.{◌≤◌, ◌<◌, length};
 
 use std::io;
 
-pub fn text(rt: &impl Print, t: &str) -> io::Result<()> {
-    rt.print(t)
+pub fn text(rt: &impl Print, t: &[u8]) -> io::Result<()> {
+    rt.write_all(t)
 }
 
 // What a line begins with.
-pub fn label(rt: &impl Print, t: &str) -> io::Result<()> {
-    print!(rt; "{t}: ")
+pub fn label(rt: &impl Print, t: &[u8]) -> io::Result<()> {
+    text(rt, t)?;
+    text(rt, b": ")
 }
 
 pub fn number(rt: &impl Print, n: u64) -> io::Result<()> {
@@ -17,14 +18,14 @@ pub fn number(rt: &impl Print, n: u64) -> io::Result<()> {
 }
 
 pub fn refusal(rt: &impl Print, n: u64) -> io::Result<()> {
-    text(rt, "refused ")?;
+    text(rt, b"refused ")?;
     number(rt, n)
 }
 
 // The number that a seal answers with.
 pub fn answer(rt: &impl Print, n: u64) -> io::Result<()> {
     if n == 0 {
-        text(rt, "accepted")
+        text(rt, b"accepted")
     } else {
         refusal(rt, n)
     }
@@ -57,5 +58,5 @@ pub fn hex(rt: &impl Print, s: &[u8]) -> io::Result<()>
         digits[2 * i + 1] = low(s[i]);
         i += 1;
     }
-    rt.write_all(&digits[0..2 * i])
+    text(rt, &digits[0..2 * i])
 }

@@ -33,9 +33,9 @@ fn holds(out: [u8; 480], p: Page, n: u64) -> bool {
 
 fn accepted(rt: &impl Print, out: [u8; 480], p: Page, n: u64) -> io::Result<()> {
     if (n == p.length as u64) & holds(out, p, n) {
-        report::text(rt, "ok")
+        report::text(rt, b"ok")
     } else {
-        report::text(rt, "wrong")
+        report::text(rt, b"wrong")
     }
 }
 
@@ -43,7 +43,7 @@ fn refused(rt: &impl Print, out: [u8; 480], p: Page, n: u64) -> io::Result<()> {
     if holds(out, p, 0) {
         report::number(rt, n)
     } else {
-        report::text(rt, "wrong")
+        report::text(rt, b"wrong")
     }
 }
 
@@ -72,13 +72,13 @@ pub fn look(rt: &impl Print, p: Page, file: &[u8]) -> io::Result<()> {
 }
 
 fn next(rt: &impl Print, place: u64, file: &[u8]) -> io::Result<()> {
-    report::text(rt, " ")?;
+    report::text(rt, b" ")?;
     look(rt, season::at(place), file)
 }
 
-pub fn roll_call(rt: &impl Print, label: &str, file: &[u8]) -> io::Result<()> {
+pub fn roll_call(rt: &impl Print, label: &[u8], file: &[u8]) -> io::Result<()> {
     report::text(rt, label)?;
-    report::text(rt, ":")?;
+    report::text(rt, b":")?;
     next(rt, 0, file)?;
     next(rt, 1, file)?;
     next(rt, 2, file)?;
@@ -86,5 +86,5 @@ pub fn roll_call(rt: &impl Print, label: &str, file: &[u8]) -> io::Result<()> {
     next(rt, 4, file)?;
     next(rt, 5, file)?;
     next(rt, 6, file)?;
-    report::text(rt, "\n")
+    report::text(rt, b"\n")
 }
