@@ -9,8 +9,10 @@ mod refused;
 mod report;
 mod unknown;
 
-fn main() {
-    known::lines();
-    unknown::lines();
-    refused::lines();
+use std::io;
+
+fn main(rt: HostRuntime) -> io::Result<()> {
+    known::lines(&rt)?;
+    unknown::lines(&rt)?;
+    refused::lines(&rt)
 }

@@ -1,67 +1,67 @@
 // What the program writes: text, numbers, and what a search answers.
-use libc::STDOUT_FILENO;
 use search::{Located, Refusal, Searched};
 use start::Mode;
+use std::io;
 
-pub fn text(t: &[u8]) {
-    io::write_all(STDOUT_FILENO, t);
+pub fn text(rt: &impl Print, t: &[u8]) -> io::Result<()> {
+    rt.write_all(t)
 }
 
 // A number, behind what is said of it.
-pub fn number(label: &[u8], n: u64) {
-    text(label);
-    io::print_decimal(STDOUT_FILENO, n);
+pub fn number(rt: &impl Print, label: &[u8], n: u64) -> io::Result<()> {
+    text(rt, label)?;
+    rt.print(n)
 }
 
 // The low byte of a word.
-fn byte(w: u32) {
-    io::print_hex(STDOUT_FILENO, (w % 0x100) as u64, 2);
+fn byte(rt: &impl Print, w: u32) -> io::Result<()> {
+    print!(rt; "{:02x}", w % 0x100)
 }
 
-fn word(w: u32) {
-    byte(w);
-    byte(w / 0x100);
-    byte(w / 0x10000);
-    byte(w / 0x1000000);
+fn word(rt: &impl Print, w: u32) -> io::Result<()> {
+    byte(rt, w)?;
+    byte(rt, w / 0x100)?;
+    byte(rt, w / 0x10000)?;
+    byte(rt, w / 0x1000000)
 }
 
 // Half of an IV.
-fn half(x: u64) {
-    word((x % 0x100000000) as u32);
-    word((x / 0x100000000) as u32);
+fn half(rt: &impl Print, x: u64) -> io::Result<()> {
+    word(rt, (x % 0x100000000) as u32)?;
+    word(rt, (x / 0x100000000) as u32)
 }
 
-fn mode(m: Mode) {
+fn mode(rt: &impl Print, m: Mode) -> io::Result<()> {
     match m {
-        Mode::Plain => text(b"plain mode"),
-        Mode::Sealed => text(b"sealed mode"),
+        Mode::Plain => text(rt, b"plain mode"),
+        Mode::Sealed => text(rt, b"sealed mode"),
     }
 }
 
-fn walked(steps: u64) {
-    number(b", ", steps);
-    text(b" steps");
+fn walked(rt: &impl Print, steps: u64) -> io::Result<()> {
+    number(rt, b", ", steps)?;
+    text(rt, b" steps")
 }
 
-fn found(l: Located) {
-    number(b"count ", l.count);
-    text(b", IV ");
-    half(l.lo);
-    half(l.hi);
-    text(b", ");
+fn found(rt: &impl Print, l: Located) -> io::Result<()> {
+    number(rt, b"count ", l.count)?;
+    text(rt, b", IV ")?;
+    half(rt, l.lo)?;
+    half(rt, l.hi)?;
+    text(rt, b", ")?;
     let m = l.mode;
-    mode(m);
-    walked(l.steps);
+    mode(rt, m)?;
+    walked(rt, l.steps)
 }
 
-fn refused(r: Refusal) {
-    number(b"refused ", r.number);
-    walked(r.steps);
+fn refused(rt: &impl Print, r: Refusal) -> io::Result<()> {
+    number(rt, b"refused ", r.number)?;
+    walked(rt, r.steps)
 }
 
-pub fn searched(s: Searched) {
+pub fn searched(rt: &impl Print, s: Searched) -> io::Result<()> {
     match s {
-        Searched::Found(l) => found(l),
-        Searched::Refused(r) => refused(r),
+        Searched::Found(l) => found(rt, l),
+        Searched::Refused(r) => refused(rt, r),
     }
 }

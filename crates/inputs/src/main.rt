@@ -2,163 +2,188 @@
 // a good one.
 #![tactic(auto)]
 
-use libc::STDOUT_FILENO;
+use std::io;
 
-fn show(name: &[u8], input: &[u8]) {
-    io::write_all(STDOUT_FILENO, name);
+fn show(rt: &impl Print, name: &[u8], input: &[u8]) -> io::Result<()> {
+    rt.write_all(name)?;
     let mut out = [0u8; command::MOST_OUTPUT];
     let k = command::answer(input, &mut out);
-    io::write_all(STDOUT_FILENO, &out[..k]);
+    rt.write_all(&out[..k])
 }
 
 // The paper's SNOW-V-GCM vector 5, and lines of no digits.
-fn good() {
+fn good(rt: &impl Print) -> io::Result<()> {
     show(
+        rt,
         b"vector 5: ",
         b"505152535455565758595a5b5c5d5e5f0a1a2a3a4a5a6a7a8a9aaabacadaeafa\n0123456789abcdeffedcba9876543210\n\n30313233343536373839\n",
-    );
+    )?;
     show(
+        rt,
         b"with data: ",
         b"505152535455565758595a5b5c5d5e5f0a1a2a3a4a5a6a7a8a9aaabacadaeafa\n0123456789abcdeffedcba9876543210\n00ff\n30313233343536373839\n",
-    );
+    )?;
     show(
+        rt,
         b"no text: ",
         b"505152535455565758595a5b5c5d5e5f0a1a2a3a4a5a6a7a8a9aaabacadaeafa\n0123456789abcdeffedcba9876543210\n\n\n",
-    );
+    )
 }
 
 // Too few lines, or something after the fourth.
-fn unended() {
-    show(b"empty: ", b"");
-    show(b"one byte 0a: ", b"\n");
+fn unended(rt: &impl Print) -> io::Result<()> {
+    show(rt, b"empty: ", b"")?;
+    show(rt, b"one byte 0a: ", b"\n")?;
     show(
+        rt,
         b"three lines: ",
         b"505152535455565758595a5b5c5d5e5f0a1a2a3a4a5a6a7a8a9aaabacadaeafa\n0123456789abcdeffedcba9876543210\n\n",
-    );
+    )?;
     show(
+        rt,
         b"fourth line not ended: ",
         b"505152535455565758595a5b5c5d5e5f0a1a2a3a4a5a6a7a8a9aaabacadaeafa\n0123456789abcdeffedcba9876543210\n\n30313233343536373839",
-    );
+    )?;
     show(
+        rt,
         b"fifth line: ",
         b"505152535455565758595a5b5c5d5e5f0a1a2a3a4a5a6a7a8a9aaabacadaeafa\n0123456789abcdeffedcba9876543210\n\n30313233343536373839\n\n",
-    );
+    )?;
     show(
+        rt,
         b"a byte after: ",
         b"505152535455565758595a5b5c5d5e5f0a1a2a3a4a5a6a7a8a9aaabacadaeafa\n0123456789abcdeffedcba9876543210\n\n30313233343536373839\n0",
-    );
+    )?;
     show(
+        rt,
         b"empty line in front: ",
         b"\n505152535455565758595a5b5c5d5e5f0a1a2a3a4a5a6a7a8a9aaabacadaeafa\n0123456789abcdeffedcba9876543210\n\n30313233343536373839\n",
-    );
+    )
 }
 
 // Bytes that are no lower-case digits, those beside the digits' ranges among them; an odd number of digits.
-fn digits() {
+fn digits(rt: &impl Print) -> io::Result<()> {
     show(
+        rt,
         b"upper case: ",
         b"505152535455565758595A5b5c5d5e5f0a1a2a3a4a5a6a7a8a9aaabacadaeafa\n0123456789abcdeffedcba9876543210\n\n30313233343536373839\n",
-    );
+    )?;
     show(
+        rt,
         b"carriage return: ",
         b"505152535455565758595a5b5c5d5e5f0a1a2a3a4a5a6a7a8a9aaabacadaeafa\n0123456789abcdeffedcba9876543210\n\n30313233343536373839\r\n",
-    );
+    )?;
     show(
+        rt,
         b"space: ",
         b"505152535455565758595a5b5c5d5e5f0a1a2a3a4a5a6a7a8a9aaabacadaeafa\n0123456789abcdeffedcba9876543210\n\n30313233343536373839 0\n",
-    );
+    )?;
     show(
+        rt,
         b"byte 2f: ",
         b"505152535455565758595a5b5c5d5e5f0a1a2a3a4a5a6a7a8a9aaabacadaeafa\n0123456789abcdeffedcba9876543210\n\n303132333435363738390/\n",
-    );
+    )?;
     show(
+        rt,
         b"byte 3a: ",
         b"505152535455565758595a5b5c5d5e5f0a1a2a3a4a5a6a7a8a9aaabacadaeafa\n0123456789abcdeffedcba9876543210\n\n303132333435363738390:\n",
-    );
+    )?;
     show(
+        rt,
         b"byte 60: ",
         b"505152535455565758595a5b5c5d5e5f0a1a2a3a4a5a6a7a8a9aaabacadaeafa\n0123456789abcdeffedcba9876543210\n\n303132333435363738390`\n",
-    );
+    )?;
     show(
+        rt,
         b"byte 67: ",
         b"505152535455565758595a5b5c5d5e5f0a1a2a3a4a5a6a7a8a9aaabacadaeafa\n0123456789abcdeffedcba9876543210\n\n303132333435363738390g\n",
-    );
+    )?;
     show(
+        rt,
         b"byte 00: ",
         b"505152535455565758595a5b5c5d5e5f0a1a2a3a4a5a6a7a8a9aaabacadaeafa\n0123456789abcdeffedcba9876543210\n\n303132333435363738390\x00\n",
-    );
+    )?;
     show(
+        rt,
         b"byte ff: ",
         b"505152535455565758595a5b5c5d5e5f0a1a2a3a4a5a6a7a8a9aaabacadaeafa\n0123456789abcdeffedcba9876543210\n\n303132333435363738390\xff\n",
-    );
+    )?;
     show(
+        rt,
         b"odd text: ",
         b"505152535455565758595a5b5c5d5e5f0a1a2a3a4a5a6a7a8a9aaabacadaeafa\n0123456789abcdeffedcba9876543210\n\n303132333435363738390\n",
-    );
+    )?;
     show(
+        rt,
         b"odd key: ",
         b"505152535455565758595a5b5c5d5e5f0a1a2a3a4a5a6a7a8a9aaabacadaeaf\n0123456789abcdeffedcba9876543210\n\n30313233343536373839\n",
-    );
+    )
 }
 
 // Four well-formed lines that a seal refuses.
-fn refused() {
+fn refused(rt: &impl Print) -> io::Result<()> {
     show(
+        rt,
         b"key of 31 bytes: ",
         b"505152535455565758595a5b5c5d5e5f0a1a2a3a4a5a6a7a8a9aaabacadaea\n0123456789abcdeffedcba9876543210\n\n30313233343536373839\n",
-    );
+    )?;
     show(
+        rt,
         b"key of 33 bytes: ",
         b"505152535455565758595a5b5c5d5e5f0a1a2a3a4a5a6a7a8a9aaabacadaeafa00\n0123456789abcdeffedcba9876543210\n\n30313233343536373839\n",
-    );
+    )?;
     show(
+        rt,
         b"no key: ",
         b"\n0123456789abcdeffedcba9876543210\n\n30313233343536373839\n",
-    );
+    )?;
     show(
+        rt,
         b"IV of 15 bytes: ",
         b"505152535455565758595a5b5c5d5e5f0a1a2a3a4a5a6a7a8a9aaabacadaeafa\n0123456789abcdeffedcba98765432\n\n30313233343536373839\n",
-    );
+    )?;
     show(
+        rt,
         b"IV of 17 bytes: ",
         b"505152535455565758595a5b5c5d5e5f0a1a2a3a4a5a6a7a8a9aaabacadaeafa\n0123456789abcdeffedcba987654321000\n\n30313233343536373839\n",
-    );
-    show(b"key and IV: ", b"\n\n\n30313233343536373839\n");
+    )?;
+    show(rt, b"key and IV: ", b"\n\n\n30313233343536373839\n")?;
     show(
+        rt,
         b"malformed first: ",
         b"\n0123456789abcdeffedcba9876543210\n\n0\n",
-    );
+    )
 }
 
 // A text of 8,192 digits and one of 8,194, with a key and an IV of zeros.
-fn long_text() {
+fn long_text(rt: &impl Print) -> io::Result<()> {
     let mut input = [b'0'; 8294];
     input[64] = b'\n';
     input[97] = b'\n';
     input[98] = b'\n';
     input[8291] = b'\n';
-    show(b"8,192 digits: ", &input[..8292]);
+    show(rt, b"8,192 digits: ", &input[..8292])?;
     input[8291] = b'0';
     input[8293] = b'\n';
-    show(b"8,194 digits: ", &input[..8294]);
+    show(rt, b"8,194 digits: ", &input[..8294])
 }
 
 // Four lines of 8,192 digits, which are too long for a key but well formed, and one byte more.
-fn longest() {
+fn longest(rt: &impl Print) -> io::Result<()> {
     let mut input = [b'0'; 32773];
     input[8192] = b'\n';
     input[16385] = b'\n';
     input[24578] = b'\n';
     input[32771] = b'\n';
-    show(b"longest input: ", &input[..32772]);
-    show(b"longer input: ", &input[..32773]);
+    show(rt, b"longest input: ", &input[..32772])?;
+    show(rt, b"longer input: ", &input[..32773])
 }
 
-fn main() {
-    good();
-    unended();
-    digits();
-    refused();
-    longest();
-    long_text();
+fn main(rt: HostRuntime) -> io::Result<()> {
+    good(&rt)?;
+    unended(&rt)?;
+    digits(&rt)?;
+    refused(&rt)?;
+    longest(&rt)?;
+    long_text(&rt)
 }

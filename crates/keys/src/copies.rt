@@ -3,36 +3,50 @@
 ghost use Rattle.std.specs.Prelude.{◌≤◌};
 
 use crate::{calls, report};
+use std::io;
 
-pub fn store(key: usize, iv: usize, stay_key: usize, kept: [u8; 2048], length: usize)
+pub fn store(
+    rt: &impl Print,
+    key: usize,
+    iv: usize,
+    stay_key: usize,
+    kept: [u8; 2048],
+    length: usize,
+) -> io::Result<()>
     requires { (key ≤ 32) × (iv ≤ 16) × (stay_key ≤ 32) × (length ≤ 2048) }
 {
     let mut copy = kept;
     let n = calls::store(5, key, iv, stay_key, &mut copy[0..length]);
-    report::number(b"store ", n);
+    report::number(rt, b"store ", n)
 }
 
-pub fn fetch(key: usize, iv: usize, kept: [u8; 2048], length: usize)
+pub fn fetch(
+    rt: &impl Print,
+    key: usize,
+    iv: usize,
+    kept: [u8; 2048],
+    length: usize,
+) -> io::Result<()>
     requires { (key ≤ 32) × (iv ≤ 16) × (length ≤ 2048) }
 {
     let f = calls::fetch(1, key, iv, &kept[0..length]);
-    report::number(b" fetch ", f.answer);
+    report::number(rt, b" fetch ", f.answer)
 }
 
-pub fn erase(iv: usize, kept: [u8; 2048], length: usize)
+pub fn erase(rt: &impl Print, iv: usize, kept: [u8; 2048], length: usize) -> io::Result<()>
     requires { (iv ≤ 16) × (length ≤ 2048) }
 {
     let mut copy = kept;
     let n = calls::erase(1, iv, &mut copy[0..length]);
-    report::number(b" erase ", n);
+    report::number(rt, b" erase ", n)
 }
 
-pub fn line(label: &[u8], kept: [u8; 2048], length: usize)
+pub fn line(rt: &impl Print, label: &[u8], kept: [u8; 2048], length: usize) -> io::Result<()>
     requires { length ≤ 2048 }
 {
-    report::text(label);
-    store(32, 16, 32, kept, length);
-    fetch(32, 16, kept, length);
-    erase(16, kept, length);
-    report::text(b"\n");
+    report::text(rt, label)?;
+    store(rt, 32, 16, 32, kept, length)?;
+    fetch(rt, 32, 16, kept, length)?;
+    erase(rt, 16, kept, length)?;
+    report::text(rt, b"\n")
 }

@@ -2,6 +2,7 @@
 ghost use Rattle.std.specs.Prelude.{◌<◌};
 
 use crate::{copies, season};
+use std::io;
 
 // A store with another byte, and every check as it was.
 fn changed(kept: [u8; 2048], at: usize, byte: u8) -> [u8; 2048]
@@ -23,46 +24,47 @@ fn numbered(kept: [u8; 2048], block: usize) -> [u8; 2048]
 }
 
 // A line about a store with the check of a block made anew, so that no other rule is broken than the one that is meant.
-fn checked(label: &[u8], kept: [u8; 2048], block: usize)
+fn checked(rt: &impl Print, label: &[u8], kept: [u8; 2048], block: usize) -> io::Result<()>
     requires { block < 4 }
 {
     let mut k = kept;
     let at = 512 * block;
     fields::put_check(&mut k[at..at + 512]);
-    copies::line(label, k, 2048);
+    copies::line(rt, label, k, 2048)
 }
 
 // Of block 0, which holds number 1.
-fn held(kept: [u8; 2048]) {
-    checked(b"mark 3: ", changed(kept, 0, 3), 0);
-    checked(b"mark 0: ", changed(kept, 0, 0), 0);
-    checked(b"byte 1: ", changed(kept, 1, 1), 0);
-    checked(b"byte 15: ", changed(kept, 15, 1), 0);
-    checked(b"byte 80: ", changed(kept, 80, 1), 0);
-    checked(b"byte 507: ", changed(kept, 507, 1), 0);
+fn held(rt: &impl Print, kept: [u8; 2048]) -> io::Result<()> {
+    checked(rt, b"mark 3: ", changed(kept, 0, 3), 0)?;
+    checked(rt, b"mark 0: ", changed(kept, 0, 0), 0)?;
+    checked(rt, b"byte 1: ", changed(kept, 1, 1), 0)?;
+    checked(rt, b"byte 15: ", changed(kept, 15, 1), 0)?;
+    checked(rt, b"byte 80: ", changed(kept, 80, 1), 0)?;
+    checked(rt, b"byte 507: ", changed(kept, 507, 1), 0)
 }
 
 // What no layout rule shuts out, and only the tag shows.
-fn sealed(kept: [u8; 2048]) {
+fn sealed(rt: &impl Print, kept: [u8; 2048]) -> io::Result<()> {
     let b = kept[32];
-    checked(b"sealed key: ", changed(kept, 32, b ^ 1), 0);
+    checked(rt, b"sealed key: ", changed(kept, 32, b ^ 1), 0)?;
     let c = kept[79];
-    checked(b"tag: ", changed(kept, 79, c ^ 1), 0);
+    checked(rt, b"tag: ", changed(kept, 79, c ^ 1), 0)
 }
 
-pub fn lines(kept: [u8; 2048]) {
-    copies::line(b"length 2047: ", kept, 2047);
-    held(kept);
+pub fn lines(rt: &impl Print, kept: [u8; 2048]) -> io::Result<()> {
+    copies::line(rt, b"length 2047: ", kept, 2047)?;
+    held(rt, kept)?;
     let b = kept[508];
     copies::line(
+        rt,
         b"check: ",
         changed(kept, 508, std::num::wrapping_add_u8(b, 1)),
         2048,
-    );
-    checked(b"erased with a key: ", changed(kept, 512 + 32, 1), 1);
-    checked(b"erased with a tag: ", changed(kept, 512 + 79, 1), 1);
-    checked(b"number twice: ", numbered(kept, 2), 2);
-    checked(b"number twice, once erased: ", numbered(kept, 1), 1);
-    copies::line(b"last block: ", changed(kept, 3 * 512 + 100, 1), 2048);
-    sealed(kept);
+    )?;
+    checked(rt, b"erased with a key: ", changed(kept, 512 + 32, 1), 1)?;
+    checked(rt, b"erased with a tag: ", changed(kept, 512 + 79, 1), 1)?;
+    checked(rt, b"number twice: ", numbered(kept, 2), 2)?;
+    checked(rt, b"number twice, once erased: ", numbered(kept, 1), 1)?;
+    copies::line(rt, b"last block: ", changed(kept, 3 * 512 + 100, 1), 2048)?;
+    sealed(rt, kept)
 }

@@ -11,9 +11,11 @@ mod report;
 mod season;
 mod store;
 
-fn main() {
-    let kept = store::season();
-    store::print(kept);
-    damage::lines(kept);
-    lengths::lines(kept);
+use std::io;
+
+fn main(rt: HostRuntime) -> io::Result<()> {
+    let kept = store::season(&rt)?;
+    store::print(&rt, kept)?;
+    damage::lines(&rt, kept)?;
+    lengths::lines(&rt, kept)
 }

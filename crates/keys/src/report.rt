@@ -1,26 +1,25 @@
 // What the program writes: text, numbers and bytes in hex.
-use libc::STDOUT_FILENO;
+use std::io;
 
-pub fn text(t: &[u8]) {
-    io::write_all(STDOUT_FILENO, t);
+pub fn text(rt: &impl Print, t: &[u8]) -> io::Result<()> {
+    rt.write_all(t)
 }
 
 // A number, behind what is said of it.
-pub fn number(label: &[u8], n: u64) {
-    text(label);
-    io::print_decimal(STDOUT_FILENO, n);
+pub fn number(rt: &impl Print, label: &[u8], n: u64) -> io::Result<()> {
+    text(rt, label)?;
+    rt.print(n)
 }
 
 // What a call about stay n answers with.
-pub fn answer(call: &[u8], n: u8, answer: u64) {
-    number(call, n as u64);
-    number(b": ", answer);
+pub fn answer(rt: &impl Print, call: &[u8], n: u8, answer: u64) -> io::Result<()> {
+    number(rt, call, n as u64)?;
+    number(rt, b": ", answer)
 }
 
-pub fn hex(s: &[u8]) {
-    let mut i: usize = 0;
-    while i < s.len() {
-        io::print_hex(STDOUT_FILENO, words::word_of(s[i]) as u64, 2);
-        i += 1;
+pub fn hex(rt: &impl Print, s: &[u8]) -> io::Result<()> {
+    for b in s {
+        print!(rt; "{b:02x}")?;
     }
+    Ok(())
 }

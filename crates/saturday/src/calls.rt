@@ -1,19 +1,26 @@
 // Calls in a row.
 use crate::{joins, turns};
+use std::io;
 
 // A letter is who comes next or a turn, and any other byte is a stay that joins.
-fn call(s: &mut [u8; 8208], rests: &mut [u8; 256], c: u8) {
+fn call(rt: &impl Print, s: &mut [u8; 8208], rests: &mut [u8; 256], c: u8) -> io::Result<()> {
     match c {
-        b'n' => turns::next(s),
-        b't' => turns::turn(s, rests),
-        i => joins::join(s, rests, i),
+        b'n' => turns::next(rt, s),
+        b't' => turns::turn(rt, s, rests),
+        i => joins::join(rt, s, rests, i),
     }
 }
 
-pub fn calls(s: &mut [u8; 8208], rests: &mut [u8; 256], row: &[u8]) {
+pub fn calls(
+    rt: &impl Print,
+    s: &mut [u8; 8208],
+    rests: &mut [u8; 256],
+    row: &[u8],
+) -> io::Result<()> {
     let mut i: usize = 0;
     while i < row.len() {
-        call(s, rests, row[i]);
+        call(rt, s, rests, row[i])?;
         i += 1;
     }
+    Ok(())
 }

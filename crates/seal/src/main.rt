@@ -5,7 +5,8 @@
 ghost use Rattle.std.specs.Prelude.{length};
 ghost use Rattle.seal.specs.Reading.{Came, Counted};
 
-use libc::{STDIN_FILENO, STDOUT_FILENO};
+use std::io;
+use std::io::Read;
 
 // One byte more than the longest input that can be well formed: a full buffer is malformed whatever follows.
 const BUFFER: usize = command::MOST_INPUT + 1;
@@ -18,18 +19,14 @@ enum Step {
 }
 
 // One read, of as many bytes as come.
-fn read_some(buf: &mut [u8]) -> Step
+fn read_some<R: Read>(from: &mut R, buf: &mut [u8]) -> Step
     ensures { Came (length buf.old) result }
 {
-    let got = libc::read(STDIN_FILENO, buf);
-    if got < 0 {
-        return Step::Failed;
+    match from.read(buf) {
+        Ok(0) => Step::End,
+        Ok(n) => Step::More(n),
+        Err(_) => Step::Failed,
     }
-    let n = io::count(got, buf);
-    if n == 0 {
-        return Step::End;
-    }
-    Step::More(n)
 }
 
 #[derive(Clone, Copy)]
@@ -39,12 +36,12 @@ enum Input {
 }
 
 // Reads until the input ends or the buffer is full.
-fn read_all(buf: &mut [u8]) -> Input
+fn read_all<R: Read>(from: &mut R, buf: &mut [u8]) -> Input
     ensures { Counted buf.new result }
 {
     let mut done = 0;
     while done < buf.len() {
-        match read_some(&mut buf[done..]) {
+        match read_some(from, &mut buf[done..]) {
             Step::More(n) => {
                 done += n;
             }
@@ -59,15 +56,14 @@ fn read_all(buf: &mut [u8]) -> Input
     Input::Read(done)
 }
 
-fn main() {
+fn main(rt: HostRuntime) -> io::Result<()> {
     let mut buf = [0u8; BUFFER];
     let mut out = [0u8; command::MOST_OUTPUT];
     // An input that cannot be read to its end is malformed.
-    let Input::Read(n) = read_all(&mut buf) else {
+    let Input::Read(n) = read_all(&mut rt.stdin(), &mut buf) else {
         let k = command::refusal(scope::MALFORMED, &mut out);
-        io::write_all(STDOUT_FILENO, &out[..k]);
-        return;
+        return rt.write_all(&out[..k]);
     };
     let k = command::answer(&buf[..n], &mut out);
-    io::write_all(STDOUT_FILENO, &out[..k]);
+    rt.write_all(&out[..k])
 }

@@ -2,6 +2,7 @@
 ghost use Rattle.std.specs.Prelude.{◌<◌};
 
 use crate::{report, roll, season};
+use std::io;
 
 // A file with the page at a place that another file has at one.
 fn with_page(file: [u8; 3584], place: usize, other: [u8; 3584], from: usize) -> [u8; 3584]
@@ -22,21 +23,21 @@ fn swapped(file: [u8; 3584], a: usize, b: usize) -> [u8; 3584]
     with_page(with_page(file, a, file, b), b, file, a)
 }
 
-fn dropped(file: [u8; 3584]) {
+fn dropped(rt: &impl Print, file: [u8; 3584]) -> io::Result<()> {
     let a = with_page(file, 2, file, 3);
     let b = with_page(a, 3, file, 4);
     let c = with_page(b, 4, file, 5);
     let d = with_page(c, 5, file, 6);
-    roll::roll_call(b"dropped", &d[0..3072]);
+    roll::roll_call(rt, b"dropped", &d[0..3072])
 }
 
-fn moved(file: [u8; 3584]) {
+fn moved(rt: &impl Print, file: [u8; 3584]) -> io::Result<()> {
     let own = swapped(file, 0, 2);
-    roll::roll_call(b"swapped", &own);
+    roll::roll_call(rt, b"swapped", &own)?;
     let foreign = swapped(file, 0, 1);
-    roll::roll_call(b"swapped with another stay's", &foreign);
+    roll::roll_call(rt, b"swapped with another stay's", &foreign)?;
     let doubled = with_page(file, 6, file, 0);
-    roll::roll_call(b"doubled", &doubled);
+    roll::roll_call(rt, b"doubled", &doubled)
 }
 
 // Page 1 of stay 1 on another day than the stay's other pages.
@@ -53,14 +54,14 @@ pub fn length_475(file: [u8; 3584]) -> [u8; 3584] {
     f
 }
 
-fn headers(file: [u8; 3584]) {
+fn headers(rt: &impl Print, file: [u8; 3584]) -> io::Result<()> {
     let days = days_differ(file);
-    roll::roll_call(b"days differ", &days);
+    roll::roll_call(rt, b"days differ", &days)?;
     let long = length_475(file);
-    roll::roll_call(b"length 475", &long);
+    roll::roll_call(rt, b"length 475", &long)?;
     let mut late = file;
     fields::put(&mut late, 3088, 4, 73049);
-    roll::roll_call(b"day 73049", &late);
+    roll::roll_call(rt, b"day 73049", &late)
 }
 
 // A file with this tag in page 1 of stay 1.
@@ -102,44 +103,45 @@ pub fn flipped(file: [u8; 3584], b: usize) -> [u8; 3584]
     f
 }
 
-fn padding(file: [u8; 3584]) {
+fn padding(rt: &impl Print, file: [u8; 3584]) -> io::Result<()> {
     let p = padded(file);
-    roll::roll_call(b"padding", &p);
+    roll::roll_call(rt, b"padding", &p)?;
     let q = flipped(p, 511);
-    roll::roll_call(b"padding, tag broken", &q);
+    roll::roll_call(rt, b"padding, tag broken", &q)
 }
 
-fn shortened(file: [u8; 3584]) {
-    roll::roll_call(b"511 bytes", &file[0..511]);
-    roll::roll_call(b"0 bytes", b"");
+fn shortened(rt: &impl Print, file: [u8; 3584]) -> io::Result<()> {
+    roll::roll_call(rt, b"511 bytes", &file[0..511])?;
+    roll::roll_call(rt, b"0 bytes", b"")
 }
 
-pub fn roll_calls(file: [u8; 3584]) {
-    dropped(file);
-    moved(file);
-    headers(file);
-    padding(file);
-    shortened(file);
+pub fn roll_calls(rt: &impl Print, file: [u8; 3584]) -> io::Result<()> {
+    dropped(rt, file)?;
+    moved(rt, file)?;
+    headers(rt, file)?;
+    padding(rt, file)?;
+    shortened(rt, file)
 }
 
-fn look_flipped(file: [u8; 3584], b: usize)
+fn look_flipped(rt: &impl Print, file: [u8; 3584], b: usize) -> io::Result<()>
     requires { b < 512 }
 {
     let f = flipped(file, b);
-    roll::look(season::at(2), &f);
+    roll::look(rt, season::at(2), &f)?;
     if b % 32 == 31 {
-        report::text(b"\n");
+        report::text(rt, b"\n")
     } else {
-        report::text(b" ");
+        report::text(rt, b" ")
     }
 }
 
 // Each byte of page 1 of stay 1 in turn, 32 to a line.
-pub fn every_byte(file: [u8; 3584]) {
-    report::text(b"each byte of page 1.1 flipped:\n");
+pub fn every_byte(rt: &impl Print, file: [u8; 3584]) -> io::Result<()> {
+    report::text(rt, b"each byte of page 1.1 flipped:\n")?;
     let mut b: usize = 0;
     while b < 512 {
-        look_flipped(file, b);
+        look_flipped(rt, file, b)?;
         b += 1;
     }
+    Ok(())
 }

@@ -11,14 +11,16 @@ mod report;
 mod roll;
 mod season;
 
-fn main() {
-    let file = pages::sealed();
-    pages::print(file);
-    pages::opens(file);
-    roll::roll_call(b"season", &file);
-    damage::every_byte(file);
-    damage::roll_calls(file);
-    refusals::opens(file);
-    refusals::seals(file);
-    accepted::seals(file);
+use std::io;
+
+fn main(rt: HostRuntime) -> io::Result<()> {
+    let file = pages::sealed(&rt)?;
+    pages::print(&rt, file)?;
+    pages::opens(&rt, file)?;
+    roll::roll_call(&rt, b"season", &file)?;
+    damage::every_byte(&rt, file)?;
+    damage::roll_calls(&rt, file)?;
+    refusals::opens(&rt, file)?;
+    refusals::seals(&rt, file)?;
+    accepted::seals(&rt, file)
 }

@@ -1,33 +1,33 @@
 // What the program writes: text, numbers and bytes in hex.
 ghost use Rattle.std.specs.Prelude.{◌≤◌, ◌<◌, length};
 
-use libc::STDOUT_FILENO;
+use std::io;
 
-pub fn text(t: &[u8]) {
-    io::write_all(STDOUT_FILENO, t);
+pub fn text(rt: &impl Print, t: &[u8]) -> io::Result<()> {
+    rt.write_all(t)
 }
 
 // What a line begins with.
-pub fn label(t: &[u8]) {
-    text(t);
-    text(b": ");
+pub fn label(rt: &impl Print, t: &[u8]) -> io::Result<()> {
+    text(rt, t)?;
+    text(rt, b": ")
 }
 
-pub fn number(n: u64) {
-    io::print_decimal(STDOUT_FILENO, n);
+pub fn number(rt: &impl Print, n: u64) -> io::Result<()> {
+    rt.print(n)
 }
 
-pub fn refusal(n: u64) {
-    text(b"refused ");
-    number(n);
+pub fn refusal(rt: &impl Print, n: u64) -> io::Result<()> {
+    text(rt, b"refused ")?;
+    number(rt, n)
 }
 
 // The number that a seal answers with.
-pub fn answer(n: u64) {
+pub fn answer(rt: &impl Print, n: u64) -> io::Result<()> {
     if n == 0 {
-        text(b"accepted");
+        text(rt, b"accepted")
     } else {
-        refusal(n);
+        refusal(rt, n)
     }
 }
 
@@ -48,7 +48,7 @@ fn low(b: u8) -> u8 {
     digit(b % 16)
 }
 
-pub fn hex(s: &[u8])
+pub fn hex(rt: &impl Print, s: &[u8]) -> io::Result<()>
     requires { length s.now ≤ 512 }
 {
     let mut digits = [0u8; 1024];
@@ -58,5 +58,5 @@ pub fn hex(s: &[u8])
         digits[2 * i + 1] = low(s[i]);
         i += 1;
     }
-    text(&digits[0..2 * i]);
+    text(rt, &digits[0..2 * i])
 }

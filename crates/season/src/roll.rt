@@ -4,6 +4,7 @@ ghost use Rattle.std.specs.Prelude.{◌≤◌};
 use crate::season::Page;
 use crate::{report, season};
 use page_file::Opened;
+use std::io;
 
 // What stands at each place of an output before a call.
 const BEFORE: u8 = 0xa5;
@@ -30,53 +31,60 @@ fn holds(out: [u8; 480], p: Page, n: u64) -> bool {
     all
 }
 
-fn accepted(out: [u8; 480], p: Page, n: u64) {
+fn accepted(rt: &impl Print, out: [u8; 480], p: Page, n: u64) -> io::Result<()> {
     if (n == p.length as u64) & holds(out, p, n) {
-        report::text(b"ok");
+        report::text(rt, b"ok")
     } else {
-        report::text(b"wrong");
+        report::text(rt, b"wrong")
     }
 }
 
-fn refused(out: [u8; 480], p: Page, n: u64) {
+fn refused(rt: &impl Print, out: [u8; 480], p: Page, n: u64) -> io::Result<()> {
     if holds(out, p, 0) {
-        report::number(n);
+        report::number(rt, n)
     } else {
-        report::text(b"wrong");
+        report::text(rt, b"wrong")
     }
 }
 
 // A look at a page, with a key, a stay and room for so many bytes: `ok` for its text, or the refusal's number.
-pub fn look_with(key: &[u8], stay: &[u8], p: Page, file: &[u8], room: usize)
+pub fn look_with(
+    rt: &impl Print,
+    key: &[u8],
+    stay: &[u8],
+    p: Page,
+    file: &[u8],
+    room: usize,
+) -> io::Result<()>
     requires { room ≤ 480 }
 {
     let mut out = fresh();
     match page_file::open(key, stay, p.n, file, &mut out[0..room]) {
-        Opened::Written(n) => accepted(out, p, n),
-        Opened::Refused(n) => refused(out, p, n),
+        Opened::Written(n) => accepted(rt, out, p, n),
+        Opened::Refused(n) => refused(rt, out, p, n),
     }
 }
 
-pub fn look(p: Page, file: &[u8]) {
+pub fn look(rt: &impl Print, p: Page, file: &[u8]) -> io::Result<()> {
     let key = season::key();
     let stay = season::stay(p.stay);
-    look_with(&key, &stay, p, file, 480);
+    look_with(rt, &key, &stay, p, file, 480)
 }
 
-fn next(place: u64, file: &[u8]) {
-    report::text(b" ");
-    look(season::at(place), file);
+fn next(rt: &impl Print, place: u64, file: &[u8]) -> io::Result<()> {
+    report::text(rt, b" ")?;
+    look(rt, season::at(place), file)
 }
 
-pub fn roll_call(label: &[u8], file: &[u8]) {
-    report::text(label);
-    report::text(b":");
-    next(0, file);
-    next(1, file);
-    next(2, file);
-    next(3, file);
-    next(4, file);
-    next(5, file);
-    next(6, file);
-    report::text(b"\n");
+pub fn roll_call(rt: &impl Print, label: &[u8], file: &[u8]) -> io::Result<()> {
+    report::text(rt, label)?;
+    report::text(rt, b":")?;
+    next(rt, 0, file)?;
+    next(rt, 1, file)?;
+    next(rt, 2, file)?;
+    next(rt, 3, file)?;
+    next(rt, 4, file)?;
+    next(rt, 5, file)?;
+    next(rt, 6, file)?;
+    report::text(rt, b"\n")
 }
