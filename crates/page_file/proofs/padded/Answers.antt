@@ -7,20 +7,15 @@ use borrow.Author.Rules.{rules}
 use lib.ListN.{length, drop, replicate}
 use lib.Seq.{take-length}
 use Rattle.page_file.specs.Layout.{padded_text}
-use Rattle.page_file.proofs.padded.Statement.{statement}
-use Rattle.page_file.proofs.padded.Tie as tie
+use Rattle.page_file.proofs.padded.Goals as goal
 
 zeros-behind : (n m : ℕ) → n ≤ m → drop n (replicate {A = ℕ} m 0) ≡ replicate (m - n) 0
 zeros-behind zero m h = ap (λ (k : ℕ). replicate {A = ℕ} k 0) (let e : m ≡ m - 0 = omega arith in e)
 zeros-behind (suc n) zero h = absurd (omega arith)
 zeros-behind (suc n) (suc m) h = zeros-behind n m (omega arith) ∙ ap (λ (k : ℕ). replicate {A = ℕ} k 0) (let e : m - n ≡ suc m - suc n = omega arith in e)
 
-returns : tie.Need-returns
+pub returns : goal.returns
 unfolding padded_text
 returns c =
-    let p = c.before in
-    let t = p.before.before.before.args.text.now in
-    p.copy.ensures ∙ ap₂ (λ (u v : List ℕ). u ++ v) (take-length t) (zeros-behind (length t) 474 (search rules))
-
-pub padded-spec : {M : Type 1} → statement M
-padded-spec = tie.close (tie.spec (λ c. search rules) (λ c κs. search rules) returns)
+    let t = c.args.text.now in
+    c.copy.ensures ∙ ap₂ (λ (u v : List ℕ). u ++ v) (take-length t) (zeros-behind (length t) 474 (search rules))
