@@ -2,8 +2,7 @@
 use mathlib.Core.Path.{◌≡◌, refl, sym, ap, subst, ◌∙◌}
 use mathlib.Core.List.{List, [], ◌∷◌, ◌++◌}
 use mathlib.Core.Bool.{Bool}
-use mathlib.Core.Logic.{◌⊎◌, ⊎_elim}
-use Prim.Native.Nat.{ℕ, ◌+◌, ◌-◌, ◌*◌, ◌≤◌}
+use Prim.Native.Nat.{ℕ, ◌+◌, ◌*◌, ◌≤◌}
 use native.Mathlib.Omega.{arith}
 use lib.ListN.{drop}
 use Rattle.scope.specs.Refusals.{pick}
@@ -14,19 +13,12 @@ use Rattle.scheduler.specs.Inner.{stay_at}
 use Rattle.scheduler.proofs.Places.{stays_long, stays_more, stays_at}
 use Rattle.scheduler.proofs.Order.{place_more}
 use Rattle.scheduler.proofs.Reading.{place_there}
-use borrow.Author.Rules.{rules}
-use Rattle.scheduler.proofs.next_place.Statement.{statement}
-use Rattle.scheduler.proofs.next_place.Tie as tie
+use Rattle.scheduler.proofs.next_place.Goals as goal
+use Rattle.scheduler.proofs.next_place.Goals.{then-comes_before, else-comes_before}
 
-abbrev invariant-loop : tie.invariant-loop
-invariant-loop s n best₀ i₀ best i = (i ≤ n) × (best ≤ i) × (best ≡ place scheduler_order (stays_in i (drop 16 s)))
-
-abbrev decreases-loop : tie.decreases-loop
-decreases-loop s n best₀ i₀ best i = n - i
-
-loop-holds : tie.Need-loop-init invariant-loop decreases-loop
+pub loop-i-init : goal.loop-i-init
 unfolding stays_in place
-loop-holds c = (omega arith, omega arith, refl)
+loop-i-init c = (omega arith, omega arith, refl)
 
 -- one place more
 turn : (s : List ℕ) (i best : ℕ) (b : Bool) → best ≤ i → best ≡ place scheduler_order (stays_in i (drop 16 s))
@@ -42,34 +34,20 @@ turn s i best b h e p =
     ∙ sym (place_more scheduler_order l y)
     ∙ ap (place scheduler_order) (sym (stays_more i (drop 16 s)))
 
-loop-again : tie.Need-loop-preserved invariant-loop decreases-loop
-loop-again c =
-    let d = c.before in
-    let l = d.before.before.loop in
-    let a = d.before.before.before.before.args in
+pub loop-i-preserved : goal.loop-i-preserved
+loop-i-preserved c =
+    let l = c.loop-i in
+    let a = c.args in
     let s = a.s.now in
-    let t = turn s l.i l.best d.comes-before.result l.invariant.1 l.invariant.2 d.comes-before.ensures in
-    ⊎_elim
-    (λ w. (omega arith, omega (arith, w.1), w.1 ∙ subst (λ (b : Bool). pick b l.i l.best ≡ place scheduler_order (stays_in (l.i + 1) (drop 16 s))) w.0.taken t))
-    (λ w. (omega arith, omega (arith, w.1), w.1 ∙ subst (λ (b : Bool). pick b l.i l.best ≡ place scheduler_order (stays_in (l.i + 1) (drop 16 s))) w.0.left t))
-    c.if1.branch
+    let t = turn s l.i l.best c.comes_before.result l.invariant.1 l.invariant.2 c.comes_before.ensures in
+    elim c.if-comes_before.branch [
+      | then-comes_before w ↦ (omega arith, omega (arith, w.best-is), w.best-is ∙ subst (λ (b : Bool). pick b l.i l.best ≡ place scheduler_order (stays_in (l.i + 1) (drop 16 s))) w.if-comes_before.true t)
+      | else-comes_before w ↦ (omega arith, omega (arith, w.best-is), w.best-is ∙ subst (λ (b : Bool). pick b l.i l.best ≡ place scheduler_order (stays_in (l.i + 1) (drop 16 s))) w.if-comes_before.false t)
+    ]
 
-returns : tie.Need-returns invariant-loop decreases-loop
+pub returns : goal.returns
 returns c =
-    let l = c.before.loop in
-    let a = c.before.before.before.args in
+    let l = c.loop-i in
+    let a = c.args in
     let e : l.i ≡ a.n = omega arith in
     l.invariant.2 ∙ ap (λ (k : ℕ). place scheduler_order (stays_in k (drop 16 a.s.now))) e
-
-pub next-place-spec : {M : Type 1} → statement M
-next-place-spec =
-    tie.close
-    (tie.spec
-    invariant-loop
-    decreases-loop
-    loop-holds
-    (λ c κs. search rules)
-    (λ c. search rules)
-    (λ c. search rules)
-    loop-again
-    returns)

@@ -2,7 +2,7 @@
 use mathlib.Core.Path.{◌≡◌, refl, sym, ap, ap₂, ◌∙◌}
 use mathlib.Core.List.{List, [], ◌∷◌, ◌++◌}
 use mathlib.Core.Bool.{Bool, ◌||◌, or-false, or_assoc}
-use Prim.Native.Nat.{ℕ, ◌+◌, ◌-◌, ◌*◌, ◌≤◌}
+use Prim.Native.Nat.{ℕ, ◌+◌, ◌*◌}
 use native.Mathlib.Omega.{arith}
 use lib.ListN.{drop}
 use Rattle.words.specs.Bytes.{part, same}
@@ -12,19 +12,11 @@ use Rattle.scheduler.specs.Bytes.{stay_in, stays_in}
 use Rattle.scheduler.specs.Inner.{stay_at}
 use Rattle.scheduler.proofs.Places.{stays_more}
 use Rattle.scheduler.proofs.Reading.{place_there}
-use borrow.Author.Rules.{rules}
-use Rattle.scheduler.proofs.present.Statement.{statement}
-use Rattle.scheduler.proofs.present.Tie as tie
+use Rattle.scheduler.proofs.present.Goals as goal
 
-abbrev invariant-loop : tie.invariant-loop
-invariant-loop s n iv found₀ i₀ found i = (i ≤ n) × (found ≡ present (bytes_of iv) (stays_in i (drop 16 s)))
-
-abbrev decreases-loop : tie.decreases-loop
-decreases-loop s n iv found₀ i₀ found i = n - i
-
-loop-holds : tie.Need-loop-init invariant-loop decreases-loop
+pub loop-i-init : goal.loop-i-init
 unfolding stays_in present
-loop-holds c = (omega arith, refl)
+loop-i-init c = (omega arith, refl)
 
 present-behind : (iv : List ℕ) (l : List Stay) (y : Stay) → present iv (l ++ (y ∷ [])) ≡ (present iv l || same (iv_of y) iv)
 unfolding present
@@ -39,33 +31,18 @@ turn iv s i found b e p =
     ∙ sym (present-behind iv (stays_in i (drop 16 s)) y)
     ∙ ap (present iv) (sym (stays_more i (drop 16 s)))
 
-loop-again : tie.Need-loop-preserved invariant-loop decreases-loop
-loop-again c =
-    let v = c.before in
-    let l = v.before.before.loop in
-    let a = v.before.before.before.before.args in (
+pub loop-i-preserved : goal.loop-i-preserved
+loop-i-preserved c =
+    let l = c.loop-i in
+    let a = c.args in (
       omega arith,
-      turn (bytes_of a.iv) a.s.now l.i l.found c.same.result l.invariant.1
-          (c.same.ensures ∙ ap (λ (u : List ℕ). same u (bytes_of a.iv)) v.iv-at.ensures),
+      turn (bytes_of a.iv) a.s.now l.i l.found c.same-found.result l.invariant.1
+          (c.same-found.ensures ∙ ap (λ (u : List ℕ). same u (bytes_of a.iv)) c.iv_at.ensures),
     )
 
-returns : tie.Need-returns invariant-loop decreases-loop
+pub returns : goal.returns
 returns c =
-    let l = c.before.loop in
-    let a = c.before.before.before.args in
+    let l = c.loop-i in
+    let a = c.args in
     let e : l.i ≡ a.n = omega arith in
     l.invariant.1 ∙ ap (λ (k : ℕ). present (bytes_of a.iv) (stays_in k (drop 16 a.s.now))) e
-
-pub present-spec : {M : Type 1} → statement M
-present-spec =
-    tie.close
-    (tie.spec
-    invariant-loop
-    decreases-loop
-    loop-holds
-    (λ c κs. search rules)
-    (λ c κs. search rules)
-    (λ c. search rules)
-    (λ c. search rules)
-    loop-again
-    returns)

@@ -4,19 +4,14 @@ use mathlib.Core.Bool.{and-false, or-false}
 use lib.Dec.{eqb, ltb}
 use Rattle.scheduler.specs.Scheduler.{Stay, scheduler_order, goes_before}
 use Rattle.scheduler.specs.Inner.{stay_at}
-use borrow.Author.Rules.{rules}
-use Rattle.scheduler.proofs.comes_before.Statement.{statement}
-use Rattle.scheduler.proofs.comes_before.Tie as tie
+use Rattle.scheduler.proofs.comes_before.Goals as goal
 
 by-marks : (x y : Stay) → ltb x.mark y.mark ≡ goes_before scheduler_order x y
 unfolding goes_before
 by-marks x y = sym (rw (and-false (eqb x.mark y.mark)) (or-false (ltb x.mark y.mark)))
 
-returns : tie.Need-returns
+pub returns : goal.returns
 returns c =
-    let a = c.before.before.before.args in
+    let a = c.args in
     let s = a.s.now in
-    ap₂ ltb c.before.mark-at.ensures c.mark-at2.ensures ∙ by-marks (stay_at s a.i) (stay_at s a.j)
-
-pub comes-before-spec : {M : Type 1} → statement M
-comes-before-spec = tie.close (tie.spec (λ c κs. search rules) (λ c κs. search rules) returns)
+    ap₂ ltb c.mark_at.ensures c.mark_at-2.ensures ∙ by-marks (stay_at s a.i) (stay_at s a.j)

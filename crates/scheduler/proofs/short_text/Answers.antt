@@ -12,9 +12,7 @@ use Rattle.session.specs.Calls.{text_too_far, text_number, text_call}
 use Rattle.session.specs.Machine.{session_of}
 use Rattle.bytes_c.specs.Order.{next}
 use Rattle.bytes_c.proofs.Answering.{accepted, refused}
-use borrow.Author.Rules.{rules}
-use Rattle.scheduler.proofs.short_text.Statement.{statement}
-use Rattle.scheduler.proofs.short_text.Tie as tie
+use Rattle.scheduler.proofs.short_text.Goals as goal
 
 either : (a b c d e : Bool)
     → next (refuse a 7 (refuse b 3 (refuse c 9 (refuse d 4 0)))) 4 ≡ next (refuse a 7 (refuse b 3 (refuse c 9 (refuse e 4 0)))) 4
@@ -34,17 +32,12 @@ whatever s p out other =
 passes : (r n : ℕ) → r ≡ n → ¬ (r ≡ 0) → r ≡ next n 4
 passes r n e h = refused e 4 r h ∙ ap (granted n 4) e
 
-returns : tie.Need-returns
+pub returns-then-n-eq0 : goal.returns-then-n-eq0
+returns-then-n-eq0 c out =
+    let a = c.args in
+    accepted (sym c.if-n-eq0.true ∙ c.text-t.ensures.says.number) 4 _ ∙ whatever (session_of a.s) a.piece.now _ out
+
+pub returns : goal.returns
 returns c out =
-    let t = c.before.before in
-    let a = t.before.before.before.args in
-    accepted (sym c.if1.true ∙ t.text.ensures.0.number) 4 _ ∙ whatever (session_of a.s) a.piece.now _ out
-
-returns-2 : tie.Need-returns-2
-returns-2 c out =
-    let t = c.before.before in
-    let a = t.before.before.before.args in
-    passes t.text.result.answer _ t.text.ensures.0.number c.if1.false ∙ whatever (session_of a.s) a.piece.now _ out
-
-pub short-text-spec : {M : Type 1} → statement M
-short-text-spec = tie.close (tie.spec (λ c. search rules) (λ c. search rules) (λ c κs. search rules) returns returns-2)
+    let a = c.args in
+    passes c.text-t.result.answer _ c.text-t.ensures.says.number c.if-n-eq0.false ∙ whatever (session_of a.s) a.piece.now _ out
