@@ -51,7 +51,7 @@ one_day_at (u ∷ us) b vs = all_on_append (departure u) us (b ∷ vs) ∙ go (e
         → (all_on (departure u) us && all_on (departure u) (b ∷ vs)) ≡ (all_on (departure b) (u ∷ us) && all_on (departure b) vs)
     go true e =
         let d = eqb-true (departure u) (departure b) e in
-        rw (e, d, eq-eqb (departure b) (departure b) refl)
+        rw (e, d, eq-eqb (departure b) (departure b) refl) (ap (λ (n : ℕ). all_on (departure b) us && all_on n vs) d)
     go false e =
         let d = ne_eqb (departure b) (departure u) (λ h. eqb-false (departure u) (departure b) e (sym h)) in
         rw (e, d) (and-false (all_on (departure u) us))

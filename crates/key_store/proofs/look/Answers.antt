@@ -1,0 +1,30 @@
+-- `key_store::look` meets its contract: what it reads of the block is what the block says, and with what was seen before it makes what is known of all.
+use mathlib.Core.Path.{◌≡◌, refl, sym, ap, ◌∙◌}
+use mathlib.Core.List.{List}
+use Prim.Native.Nat.{ℕ, ◌+◌, ◌-◌, ◌*◌}
+use native.Mathlib.Omega.{arith}
+use lib.ListN.{get_or, take, drop}
+use Rattle.words.specs.Bytes.{same, part}
+use Rattle.words.specs.Machine.{bytes_of}
+use Rattle.fields.specs.Blocks.{cut}
+use Rattle.fields.proofs.Blocks.{cut_long, cut_more}
+use Rattle.key_store.specs.Layout.{well_laid}
+use Rattle.key_store.proofs.Surveying.{mark_read, iv_read, seen_in, seen_more}
+use Rattle.key_store.proofs.look.Goals as goal
+
+pub returns : goal.returns
+returns c w g =
+    let a = c.args in
+    let s = a.store.now in
+    let iv = bytes_of a.iv in
+    let b = part (512 * a.i) 512 s in
+    let long : 512 * a.i + 512 - 512 * a.i ≡ 512 = omega arith in
+    seen_in iv w _ (cut_more a.i s)
+    (seen_more iv w (cut a.i s) b a.s _ g a.i (get_or s (512 * a.i) 0) c.same-asked.result c.well_laid-laid.result c.again-twice.result (sym (cut_long a.i s)) (mark_read s a.i)
+    (c.same-asked.ensures ∙ ap (λ (v : List ℕ). same v iv) (c.load.ensures ∙ iv_read s a.i))
+    (c.well_laid-laid.ensures ∙ ap (λ (n : ℕ). well_laid (take n (drop (512 * a.i) s))) long)
+    c.again-twice.ensures
+    refl
+    c.first-empty.ensures
+    c.first-present.ensures
+    c.first-holding.ensures)

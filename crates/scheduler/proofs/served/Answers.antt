@@ -1,0 +1,70 @@
+-- `scheduler::served` meets its contract, by whether anything is left.
+use mathlib.Core.Path.{◌≡◌, refl, sym, ap, ◌∙◌}
+use mathlib.Core.Bool.{true, false}
+use Prim.Native.Nat.{ℕ, ◌-◌}
+use native.Mathlib.Omega.{arith}
+use borrow.Author.Tests.{eq-eqb, ne_eqb}
+use lib.Dec.{eqb}
+use lib.ListN.{length}
+use Rattle.words.proofs.Rows.{Below}
+use Rattle.words.proofs.Typed.{known_bytes}
+use Rattle.session.specs.Calls.{Finished}
+use Rattle.session.specs.Machine.{session_of}
+use Rattle.scheduler.specs.Calls.{rest}
+use Rattle.scheduler.specs.Bytes.{scheduler_in}
+use Rattle.scheduler.specs.Inner.{stay_at, removed}
+use Rattle.scheduler.proofs.Leaving.{removed_long}
+use Rattle.scheduler.proofs.Serving.{staying, leaving}
+use Rattle.scheduler.proofs.served.Goals as goal
+use Rattle.scheduler.proofs.served.Goals.{After-slice_known-1}
+
+bytes : (c : After-slice_known-1) → Below 256 c.args.s.now
+bytes c = known_bytes c.args.s.now c.slice_known-1.given
+
+pub overflow_sub-n : goal.overflow_sub-n
+overflow_sub-n c =
+    omega (arith, c.stays-n.ensures.0, c.requires.1)
+
+pub put_head-requires-2 : goal.put_head-requires-2
+put_head-requires-2 c =
+    let s = c.args.s.now in
+    let i = c.args.i in
+    ap length c.remove.ensures ∙ ap (λ (m : ℕ). length (removed i m s)) c.stays-n.ensures.0 ∙ removed_long s (bytes (goal.at.put_head-requires-2 c).After-slice_known-1) c.requires.0 i c.requires.1
+
+pub returns-then-rest-ne0 : goal.returns-then-rest-ne0
+unfolding scheduler_in
+returns-then-rest-ne0 c =
+    let s = c.args.s.now in
+    let i = c.args.i in
+    let u = session_of c.args.u in
+    let r : c.left_at-left.result - c.due_of.result ≡ rest (stay_at s i) = omega (arith, c.left_at-left.ensures, c.due_of.ensures) in
+    let none : eqb (rest (stay_at s i)) 0 ≡ false = ne_eqb (rest (stay_at s i)) 0 (λ z. c.if-rest-ne0.true (r ∙ z)) in record {
+      says = record {
+        answer = refl;
+        turn = omega (arith, c.get-turn.ensures.0);
+        iv = c.to_bytes-iv.ensures ∙ c.iv_at.ensures;
+        done = sym none;
+        tag = rw none;
+      };
+      bytes = staying s (bytes (goal.at.returns-then-rest-ne0 c).After-slice_known-1) c.requires.0 i c.requires.1 c.requires.2 u (omega (arith, c.get-turn.ensures.0)) c.stays-n.ensures.0 r c.if-rest-ne0.true
+          c.put_stay.ensures.1 c.put_stay.ensures.0 c.put_head.ensures;
+    }
+
+pub returns : goal.returns
+unfolding scheduler_in
+returns c =
+    let s = c.args.s.now in
+    let i = c.args.i in
+    let u = session_of c.args.u in
+    let r : c.left_at-left.result - c.due_of.result ≡ rest (stay_at s i) = omega (arith, c.left_at-left.ensures, c.due_of.ensures) in
+    let all : eqb (rest (stay_at s i)) 0 ≡ true = eq-eqb (rest (stay_at s i)) 0 (sym r ∙ c.if-rest-ne0.false) in record {
+      says = record {
+        answer = refl;
+        turn = omega (arith, c.get-turn.ensures.0);
+        iv = c.to_bytes-iv.ensures ∙ c.iv_at.ensures;
+        done = sym all;
+        tag = rw all (ap (λ (z : Finished). z.tag) c.finish-f.ensures);
+      };
+      bytes = leaving s (bytes (goal.at.returns c).After-slice_known-1) c.requires.0 i c.requires.1 c.requires.2 u (omega (arith, c.get-turn.ensures.0)) c.stays-n.ensures.0 r c.if-rest-ne0.false
+          c.remove.ensures c.put_head-2.ensures;
+    }
