@@ -62,6 +62,7 @@ count_none m (x ∷ l) h = count_out m x l (h x (Memᴰ.head refl)) ∙ count_no
 
 pub count_some : (x : Stay) (l : List Stay) → Among x l → 0 < count x.mark l
 unfolding count
+count_some x [] m = elim m [ ]
 count_some x (y ∷ l) (Memᴰ.head e) = rw (le-leb y.mark x.mark (omega (arith, ap (λ (s : Stay). s.mark) e))) (omega arith)
 count_some x (y ∷ l) (Memᴰ.tail m) = omega (arith, count_some x l m)
 

@@ -14,6 +14,7 @@ use Rattle.claims_scheduler.proofs.Lists.{Among, at_among, was_or_last, was_or_n
 
 pub among_present : (x : Stay) (l : List Stay) → Among x l → present (iv_of x) l ≡ true
 unfolding present
+among_present x [] m = elim m [ ]
 among_present x (y ∷ l) (Memᴰ.head e) = rw (← e, same_refl (iv_of x))
 among_present x (y ∷ l) (Memᴰ.tail m) = rw (among_present x l m) (or-true (same (iv_of y) (iv_of x)))
 
@@ -41,6 +42,7 @@ apart_places (x ∷ l) a (suc i) (suc j) h k = apart_places l a.1 i j (omega ari
 -- a number stands for one stay
 pub one_of : (l : List Stay) → Apart l → (x y : Stay) → Among x l → Among y l → iv_of x ≡ iv_of y → x ≡ y
 unfolding Apart
+one_of [] a x y m _ e = elim m [ ]
 one_of (z ∷ l) a x y (Memᴰ.head p) (Memᴰ.head q) e = p ∙ sym q
 one_of (z ∷ l) a x y (Memᴰ.head p) (Memᴰ.tail n) e = absurd (a.0 y n (sym e ∙ ap iv_of p))
 one_of (z ∷ l) a x y (Memᴰ.tail m) (Memᴰ.head q) e = absurd (a.0 x m (e ∙ ap iv_of q))
