@@ -15,7 +15,7 @@ use Rattle.words.specs.Bytes.{Row}
 use Rattle.cipher.specs.Run.{backward, moves}
 use Rattle.cipher.specs.State.{State}
 use Rattle.start.specs.Start.{Mode}
-use Rattle.start.specs.Leads.{Traced, Traced.origin, Traced.refused}
+use Rattle.start.specs.Leads.{Traced, Traced.origin}
 use Rattle.start.specs.Trace.{loaded, trace}
 use Rattle.start.proofs.Answers.{trace_bad_key, trace_too_far, trace_walks}
 use Rattle.start.proofs.Unloading.{refused_six}
