@@ -5,7 +5,7 @@ use mathlib.Core.List.{List, [], ◌∷◌, ◌++◌}
 use Prim.Native.Nat.{ℕ, ◌^◌, ◌<◌}
 use lib.Dec.{lit<}
 use lib.ListN.{length, replicate, length-append}
-use Rattle.words.specs.Xor.{◌⊕◌, xors}
+use Rattle.words.specs.Xor.{xors}
 use Rattle.words.specs.Bytes.{Row, IsBlock, zeros}
 use Rattle.words.proofs.XorLaws.{⊕-self}
 use Rattle.words.proofs.Rows.{zeros_block, below_test, xors_comm, xors_zeros}

@@ -2,18 +2,16 @@
 -- these strings differ in one block, and so their hashes differ; the end pad, which is the same, keeps the tags apart.
 use mathlib.Core.Path.{◌≡◌, refl, sym, ap, ap₂, ◌∙◌}
 use mathlib.Core.List.{List, [], ◌++◌, append_assoc}
-use Prim.Native.Nat.{ℕ, ◌+◌, ◌*◌, ◌-◌, ◌/◌, ◌%◌, ◌<◌}
-use native.Mathlib.Decide.{dec_lt}
+use Prim.Native.Nat.{ℕ, ◌+◌, ◌-◌, ◌/◌, ◌%◌}
 use native.Mathlib.Omega.{arith}
 use lib.Dec.{lit<}
-use lib.ListN.{length, get_or, take, drop, replicate, length-append, length-replicate, get_or-append}
-use lib.Seq.{get_or-append-add, take_at, drop_at}
+use lib.ListN.{length, get_or, take, drop, replicate, length-append, length-replicate}
+use lib.Seq.{take_at, drop_at}
 use Rattle.words.specs.Xor.{xors}
 use Rattle.words.specs.Bytes.{Row, IsBlock, zeros}
-use Rattle.words.proofs.Rows.{Below, below_append, row_append, zeros_row, zeros_block}
+use Rattle.words.proofs.Rows.{Below, below_append, zeros_block}
 use Rattle.words.proofs.Sums.{xors_back}
 use Rattle.ghash.specs.Hash.{lengths, padded, ghash}
-use Rattle.ghash.proofs.BigEndian.{bigs_row}
 use Rattle.ghash.proofs.Hashing.{hash_from_block}
 use Rattle.ghash.proofs.Padding.{padded_whole, padded_below, lengths_row}
 use Rattle.ghash.proofs.Difference.{hash_one_block}
