@@ -38,7 +38,7 @@ fn put_where(out: &mut [u8], holds: bool, b: [u8; 16])
 
 // Whether the four buffers of a turn have room.
 fn fits(iv: &[u8], turn: &[u8], done: &[u8], tag: &[u8]) -> bool
-    ensures { result ≡ eqb (rooms (record { iv = iv.entry.now; turn = turn.now; done = done.now; tag = tag.now })) 0 }
+    ensures { result ≡ eqb (rooms (record { iv = iv.now; turn = turn.now; done = done.now; tag = tag.now })) 0 }
 {
     if iv.len() < IV_BYTES {
         return false;
@@ -95,13 +95,13 @@ pub fn turn(
     done: &mut [u8],
     tag: &mut [u8],
 ) -> u64
-    ensures answer { result ≡ turned_answer scheduler.old piece.now out.old (record { iv = iv.entry.now; turn = turn.old; done = done.old; tag = tag.old }) }
-    ensures scheduler { TurnedLeaves scheduler.old piece.now out.old (record { iv = iv.entry.now; turn = turn.old; done = done.old; tag = tag.old }) scheduler.new }
-    ensures out { out.new ≡ turned_out scheduler.old piece.now out.old (record { iv = iv.entry.now; turn = turn.old; done = done.old; tag = tag.old }) }
-    ensures iv { iv.exit.now ≡ turned_iv scheduler.old piece.now out.old (record { iv = iv.entry.now; turn = turn.old; done = done.old; tag = tag.old }) }
-    ensures turn { turn.new ≡ turned_turn scheduler.old piece.now out.old (record { iv = iv.entry.now; turn = turn.old; done = done.old; tag = tag.old }) }
-    ensures done { done.new ≡ turned_done scheduler.old piece.now out.old (record { iv = iv.entry.now; turn = turn.old; done = done.old; tag = tag.old }) }
-    ensures tag { tag.new ≡ turned_tag scheduler.old piece.now out.old (record { iv = iv.entry.now; turn = turn.old; done = done.old; tag = tag.old }) }
+    ensures answer { result ≡ turned_answer scheduler.old piece.now out.old (record { iv = iv.old; turn = turn.old; done = done.old; tag = tag.old }) }
+    ensures scheduler { TurnedLeaves scheduler.old piece.now out.old (record { iv = iv.old; turn = turn.old; done = done.old; tag = tag.old }) scheduler.new }
+    ensures out { out.new ≡ turned_out scheduler.old piece.now out.old (record { iv = iv.old; turn = turn.old; done = done.old; tag = tag.old }) }
+    ensures iv { iv.new ≡ turned_iv scheduler.old piece.now out.old (record { iv = iv.old; turn = turn.old; done = done.old; tag = tag.old }) }
+    ensures turn { turn.new ≡ turned_turn scheduler.old piece.now out.old (record { iv = iv.old; turn = turn.old; done = done.old; tag = tag.old }) }
+    ensures done { done.new ≡ turned_done scheduler.old piece.now out.old (record { iv = iv.old; turn = turn.old; done = done.old; tag = tag.old }) }
+    ensures tag { tag.new ≡ turned_tag scheduler.old piece.now out.old (record { iv = iv.old; turn = turn.old; done = done.old; tag = tag.old }) }
 {
     if !fits(iv, turn, done, tag) {
         return scheduler::short_turn(scheduler, piece);
