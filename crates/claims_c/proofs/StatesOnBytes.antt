@@ -4,7 +4,7 @@
 use mathlib.Core.Path.{◌≡◌, refl, sym, ap, ap₂, subst, ◌∙◌}
 use mathlib.Core.Bool.{Bool, true, false, not}
 use mathlib.Core.List.{List, [], ◌∷◌, ◌++◌, append-nil}
-use Prim.Native.Nat.{ℕ, ◌*◌, ◌≤◌}
+use Prim.Native.Nat.{◌+◌, ℕ, ◌*◌, ◌≤◌}
 use native.Mathlib.Nat.{lt_of_le_of_lt}
 use native.Mathlib.Omega.{arith}
 use borrow.Author.Tests.{eqb-true, eqb-false, le-ltb}
@@ -102,17 +102,26 @@ module _ (s : State) (g : SizedState s) where
 
 -- ---- lists of runs
 
+-- where one run more leads
+abbrev onward : Course → Run → Course
+onward c r =
+    let len = length r.out.list in
+    record {
+      state = run_state forward c.state len r.n;
+      sum = c.sum + granted (run_number forward c.state.count len r.n) r.n 0;
+    }
+
 runs_sized : (c : Course) → SizedState c.state → (rs : List Run) → SizedState (runs c rs).state
 unfolding runs
 runs_sized c g [] = g
-runs_sized c g (r ∷ rs) = runs_sized _ (run_sized forward c.state g (length r.out.list) r.n) rs
+runs_sized c g (r ∷ rs) = runs_sized (onward c r) (run_sized forward c.state g (length r.out.list) r.n) rs
 
 runs_left : (c : Course) → SizedState c.state → (rs : List Run) → c_runs (state_bytes c.state) rs ≡ state_bytes (runs c rs).state
 unfolding runs c_runs
 runs_left c g [] = refl
 runs_left c g (r ∷ rs) =
     ap (λ (b : List ℕ). c_runs b rs) (run_left c.state g r.n 0 r.out.list)
-    ∙ runs_left _ (run_sized forward c.state g (length r.out.list) r.n) rs
+    ∙ runs_left (onward c r) (run_sized forward c.state g (length r.out.list) r.n) rs
 
 -- from start on
 module _ (key iv : Bytes) (l : Keyed key iv) (mode : ℕ) (state : List ℕ) (room-120 : length state ≡ 120) where
