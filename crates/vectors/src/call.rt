@@ -81,7 +81,6 @@ fn answered(rt: &impl Print, answer: u64, wrote: usize, kept: bool, s: State) ->
 
 // A run, with the length of the part that it hands back. The number lent is none that a run answers with.
 pub fn run(rt: &impl Print, s: State, out: &mut [u8], n: usize, back: bool) -> io::Result<State>
-    requires { length out.old ≤ 16 * n }
     ensures { length out.new ≡ length out.old }
 {
     asked(rt, s, out.len(), n, back)?;

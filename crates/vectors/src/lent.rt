@@ -14,17 +14,25 @@ pub fn step(s: State) -> Stepped
     Stepped { state: t, drawn: d }
 }
 
-// The part that the run hands back is measured and given up. Of an output no longer than the blocks it is all or nothing, so that what the output
-// ends as is known.
+// A run whose part of the output is measured and given up: the output then ends as the part, with what stood behind it.
+fn measured(s: &mut State, answer: &mut u64, out: &mut [u8], n: usize, back: bool) -> usize
+    ensures state { state_of s.new ≡ run_state back (state_of s.old) (length out.old) n }
+    ensures answer { answer.new ≡ run_number back s.old.count (length out.old) n }
+    ensures wrote { result ≡ length (run_part back (state_of s.old) (length out.old) n) }
+    ensures out { out.new ≡ run_part back (state_of s.old) (length out.old) n ++ drop result out.old }
+{
+    let part = cipher::run(s, answer, out, n, back);
+    part.len()
+}
+
+// A run over a state by value.
 pub fn run(s: State, answer: &mut u64, out: &mut [u8], n: usize, back: bool) -> Ran
-    requires { length out.old ≤ 16 * n }
     ensures state { state_of result.state ≡ run_state back (state_of s) (length out.old) n }
     ensures wrote { result.wrote ≡ length (run_part back (state_of s) (length out.old) n) }
     ensures answer { answer.new ≡ run_number back s.count (length out.old) n }
     ensures out { out.new ≡ run_part back (state_of s) (length out.old) n ++ drop result.wrote out.old }
 {
     let mut t = s;
-    let part = cipher::run(&mut t, answer, out, n, back);
-    let k = part.len();
+    let k = measured(&mut t, answer, out, n, back);
     Ran { state: t, wrote: k }
 }
