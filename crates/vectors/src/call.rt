@@ -1,5 +1,5 @@
 // A call on a state, with a line of what it answers and what it leaves.
-ghost use Rattle.std.specs.Prelude.{◌≡◌, ◌*◌, ◌≤◌, length};
+ghost use Rattle.std.specs.Prelude.{◌≡◌, length};
 
 use crate::{lent, report, vector};
 use cipher::{Drawn, Registers, State};

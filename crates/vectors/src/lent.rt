@@ -1,5 +1,5 @@
 // The forms of the cipher that are lent a state, over a state by value: each makes the reference, calls, and hands the state on.
-ghost use Rattle.std.specs.Prelude.{◌≡◌, ◌++◌, ◌*◌, ◌≤◌, length, drop};
+ghost use Rattle.std.specs.Prelude.{◌≡◌, ◌++◌, length, drop};
 ghost use Rattle.cipher.specs.Run.{forward};
 ghost use Rattle.cipher.specs.State.{run_number, run_state, run_part};
 ghost use Rattle.cipher.specs.Machine.{state_of, Steps};
