@@ -4,7 +4,7 @@
 
 usage: respell.py [--list]
 
-Run once at the top of a checkout, after /opt/rattle/port/port.py. Names that a proof by hand (Proof.antt) declares stay, since Rattle
+Run once at the top of a checkout, after port.py of the kit. Names that a proof by hand (Proof.antt) declares stay, since Rattle
 prescribes them, and so do names that a file imports from another library. It turns .antt files, the clauses and comments of .rt files,
 must-fail edits, and names in backquotes of README.md and docs/. --list prints the names and those that would fall together.
 """
