@@ -2,11 +2,11 @@
 // refusal.
 #![tactic(auto)]
 
-ghost use Rattle.std.specs.Prelude.{length};
-ghost use Rattle.seal.specs.Reading.{Came, Counted};
+ghost use Rattle.std.specs.Prelude.{length, IfOk};
+ghost use Rattle.seal.specs.Reading.{Came, Counted, Gave, Took, Answers};
 
 use std::io;
-use std::io::Read;
+use std::io::{Read, Write};
 
 // One byte more than the longest input that can be well formed: a full buffer is malformed whatever follows.
 const BUFFER: usize = command::MOST_INPUT + 1;
@@ -20,7 +20,8 @@ enum Step {
 
 // One read, of as many bytes as come.
 fn read_some<R: Read>(from: &mut R, buf: &mut [u8]) -> Step
-    ensures { Came (length buf.old) result }
+    ensures came { Came (length buf.old) result }
+    ensures gave { Gave (R.remaining from.old) (R.remaining from.new) (length buf.old) buf.new result }
 {
     match from.read(buf) {
         Ok(0) => Step::End,
@@ -37,7 +38,8 @@ enum Input {
 
 // Reads until the input ends or the buffer is full.
 fn read_all<R: Read>(from: &mut R, buf: &mut [u8]) -> Input
-    ensures { Counted buf.new result }
+    ensures counted { Counted buf.new result }
+    ensures took { Took (R.remaining from.old) buf.new result }
 {
     let mut done = 0;
     while done < buf.len() {
@@ -56,14 +58,23 @@ fn read_all<R: Read>(from: &mut R, buf: &mut [u8]) -> Input
     Input::Read(done)
 }
 
-fn main(rt: HostRuntime) -> io::Result<()> {
+// Reads an input and writes its answer. An input that cannot be read to its end is malformed.
+fn run<R: Read, W: Write>(from: &mut R, to: &mut W) -> io::Result<Input>
+    ensures { IfOk result (λ input. Answers (R.remaining from.old) input (W.contents to.old) (W.contents to.new)) }
+{
     let mut buf = [0u8; BUFFER];
     let mut out = [0u8; command::MOST_OUTPUT];
-    // An input that cannot be read to its end is malformed.
-    let Input::Read(n) = read_all(&mut rt.stdin(), &mut buf) else {
+    let Input::Read(n) = read_all(from, &mut buf) else {
         let k = command::refusal(scope::MALFORMED, &mut out);
-        return rt.write_all(&out[..k]);
+        to.write_all(&out[..k])?;
+        return Ok(Input::Failed);
     };
     let k = command::answer(&buf[..n], &mut out);
-    rt.write_all(&out[..k])
+    to.write_all(&out[..k])?;
+    Ok(Input::Read(n))
+}
+
+fn main(rt: HostRuntime) -> io::Result<()> {
+    run(&mut rt.stdin(), &mut rt.stdout())?;
+    Ok(())
 }
