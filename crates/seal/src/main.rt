@@ -74,7 +74,7 @@ fn run<R: Read, W: Write>(from: &mut R, to: &mut W) -> io::Result<Input>
     Ok(Input::Read(n))
 }
 
-fn main(rt: HostRuntime) -> io::Result<()> {
-    run(&mut rt.stdin(), &mut rt.stdout())?;
-    Ok(())
+// What cannot be written is lost without a word: the program's answer is its output.
+fn main(rt: HostRuntime) {
+    let _ = run(&mut rt.stdin(), &mut rt.stdout());
 }
