@@ -4,7 +4,7 @@ use Rattle.std.specs.Prelude.{ℕ, ◌≤◌, ◌<◌, ◌≡◌, List, length, 
 use Rattle.std.specs.declared.option.Option.{Option}
 use Rattle.std.specs.Io.KnownBytes.{Appends, Consumes, IsAtEnd}
 use Rattle.scope.specs.Refusals.{malformed}
-use Rattle.command.specs.Output.{Answer, Answer.refused, printed, output}
+use Rattle.command.specs.Output.{Answer.refused, printed, output}
 use Rattle.seal.specs.declared.Step.{Step}
 use Rattle.seal.specs.declared.Step.TheVariants.{More, End, Failed}
 use Rattle.seal.specs.declared.Input.{Input}
