@@ -2,7 +2,7 @@
 // blocks in blocks.rt; the crate `pass` has the loops that seal, of a piece's whole blocks and of a whole page; lent.rt has the calls for whoever makes the tables once for several.
 #![tactic(auto)]
 
-ghost use Rattle.std.specs.Prelude.{◌≡◌, ◌++◌, ◌+◌, ◌^◌, ◌<◌, ◌≤◌, length, drop};
+ghost use Rattle.std.specs.Prelude.{◌≡◌, ◌++◌, ◌+◌, ◌%◌, ◌^◌, ◌<◌, ◌≤◌, length, drop};
 ghost use Rattle.scope.specs.Limits.{most_text};
 ghost use Rattle.aes.specs.Tables.{Holds};
 ghost use Rattle.wide_round.specs.Wide.{wide};
@@ -180,7 +180,9 @@ fn into_text(s: Session, y: Element) -> Session
     r
 }
 
-// What is held of the data is padded with zeros and hashed, where that is not done.
+// What is held of the data is padded with zeros and hashed, where that is not done. The table of H that it takes stands on the stack while this runs, and
+// not in its callers.
+#[inline(never)]
 fn close(s: Session) -> Session
     ensures { session_of result ≡ closed (session_of s) }
 {
@@ -192,7 +194,20 @@ fn close(s: Session) -> Session
     into_text(s, digest::settle(h, d, s.ad))
 }
 
-// An accepted piece of text, with the table of H made where a block is filled. Any, even an empty one, closes the data.
+// An accepted piece of text that fills a block, with the table of H made: in a function of its own, so that the table stands on the stack on this way alone.
+#[inline(never)]
+fn take_long(s: Session, piece: &[u8], out: &mut [u8], rounds: &[u32; 256]) -> Session
+    requires { Part s.text (length piece.now) (length out.old) 0 (length piece.now) × (16 ≤ s.text % 16 + length piece.now) × Holds wide rounds.now × (s.state.count + length piece.now < 2 ^ 64) }
+    ensures session { session_of result ≡ text_taken (closed (session_of s)) piece.now }
+    ensures out { out.new ≡ text_out (closed (session_of s)) piece.now ++ drop (length piece.now) out.old }
+{
+    let h = s.h;
+    let mut table = [0u64; 1024];
+    ghash::fill(&mut table, h);
+    blocks::long_text(lent::close_with(s, &table), piece, out, rounds, &table)
+}
+
+// An accepted piece of text. Any, even an empty one, closes the data.
 fn take_text(s: Session, piece: &[u8], out: &mut [u8]) -> Session
     requires { Part s.text (length piece.now) (length out.old) 0 (length piece.now) × (s.state.count + length piece.now < 2 ^ 64) }
     ensures session { session_of result ≡ text_taken (closed (session_of s)) piece.now }
@@ -203,10 +218,7 @@ fn take_text(s: Session, piece: &[u8], out: &mut [u8]) -> Session
     if piece.len() < 16 - at {
         return blocks::short_text(close(s), piece, out, &rounds);
     }
-    let h = s.h;
-    let mut table = [0u64; 1024];
-    ghash::fill(&mut table, h);
-    blocks::long_text(lent::close_with(s, &table), piece, out, &rounds, &table)
+    take_long(s, piece, out, &rounds)
 }
 
 // Blocks that hold n bytes.

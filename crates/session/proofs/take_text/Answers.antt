@@ -1,5 +1,4 @@
--- `session::take_text` meets its contract: the data are closed, and the piece goes the short way where no block is filled, and else the long one, with the
--- table made.
+-- `session::take_text` meets its contract: the data are closed, and the piece goes the short way where no block is filled, and else the long one.
 use mathlib.Core.Path.{ap, ◌∙◌}
 use native.Mathlib.Omega.{arith}
 use Rattle.session.specs.Session.{Session}
@@ -18,23 +17,5 @@ returns-then-piece-at c = let p = (let a = c.args in
     let close = c.close in
     closed_piece (session_of a.s) (session_of close.result) close.ensures _ a.piece.now a.out.now _ (c.short_text.ensures.session, c.short_text.ensures.out)) in record { session = p.0; out = p.1 }
 
-pub long_text-requires : goal.long_text-requires
-long_text-requires c =
-    let close = c.close_with in
-    let fill = c.fill in
-    let e = closed_count (session_of c.args.s) (session_of close.result) close.ensures in
-    let f = closed_drawn (session_of c.args.s) (session_of close.result) close.ensures in
-    let h = ap (λ (u : Session). u.h) close.ensures ∙ closed_h (session_of c.args.s) in (
-      rw e c.requires.0,
-      rw e (omega (arith, c.if-piece-at.false)),
-      record { of_rounds = c.table-rounds.ensures; of_h = rw h fill.ensures },
-      rw f c.requires.1,
-    )
-
-pub returns : goal.returns
-returns c = let p = (let close = c.close_with in
-    let a = c.args in
-    closed_piece (session_of a.s) (session_of close.result) close.ensures _ a.piece.now a.out.now _ (c.long_text.ensures.session, c.long_text.ensures.out)) in record { session = p.0; out = p.1 }
-
-pub close_with-requires : goal.close_with-requires
-close_with-requires c = c.fill.ensures
+pub take_long-requires : goal.take_long-requires
+take_long-requires c = (c.requires.0, omega (arith, c.if-piece-at.false), c.table-rounds.ensures, c.requires.1)
