@@ -196,7 +196,7 @@ pub enum Outcome {
     Refused(u64),
 }
 
-// An enum holds no array, so the tag stands beside it (zeros on a refusal).
+// The tag stands beside the outcome, zeros on a refusal.
 #[derive(Clone, Copy)]
 pub struct Answered {
     pub outcome: Outcome,
