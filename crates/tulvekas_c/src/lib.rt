@@ -327,13 +327,13 @@ pub extern "C" fn tulvekas_schedule_turn(
     done: &mut [u8],
     tag: &mut [u8],
 ) -> u64
-    ensures answer { result ≡ turned_answer scheduler.old piece.now out.old (record { iv = iv.entry.now; turn = turn.old; done = done.old; tag = tag.old }) }
-    ensures scheduler { TurnedLeaves scheduler.old piece.now out.old (record { iv = iv.entry.now; turn = turn.old; done = done.old; tag = tag.old }) scheduler.new }
-    ensures out { out.new ≡ turned_out scheduler.old piece.now out.old (record { iv = iv.entry.now; turn = turn.old; done = done.old; tag = tag.old }) }
-    ensures iv { iv.exit.now ≡ turned_iv scheduler.old piece.now out.old (record { iv = iv.entry.now; turn = turn.old; done = done.old; tag = tag.old }) }
-    ensures turn { turn.new ≡ turned_turn scheduler.old piece.now out.old (record { iv = iv.entry.now; turn = turn.old; done = done.old; tag = tag.old }) }
-    ensures done { done.new ≡ turned_done scheduler.old piece.now out.old (record { iv = iv.entry.now; turn = turn.old; done = done.old; tag = tag.old }) }
-    ensures tag { tag.new ≡ turned_tag scheduler.old piece.now out.old (record { iv = iv.entry.now; turn = turn.old; done = done.old; tag = tag.old }) }
+    ensures answer { result ≡ turned_answer scheduler.old piece.now out.old (record { iv = iv.old; turn = turn.old; done = done.old; tag = tag.old }) }
+    ensures scheduler { TurnedLeaves scheduler.old piece.now out.old (record { iv = iv.old; turn = turn.old; done = done.old; tag = tag.old }) scheduler.new }
+    ensures out { out.new ≡ turned_out scheduler.old piece.now out.old (record { iv = iv.old; turn = turn.old; done = done.old; tag = tag.old }) }
+    ensures iv { iv.new ≡ turned_iv scheduler.old piece.now out.old (record { iv = iv.old; turn = turn.old; done = done.old; tag = tag.old }) }
+    ensures turn { turn.new ≡ turned_turn scheduler.old piece.now out.old (record { iv = iv.old; turn = turn.old; done = done.old; tag = tag.old }) }
+    ensures done { done.new ≡ turned_done scheduler.old piece.now out.old (record { iv = iv.old; turn = turn.old; done = done.old; tag = tag.old }) }
+    ensures tag { tag.new ≡ turned_tag scheduler.old piece.now out.old (record { iv = iv.old; turn = turn.old; done = done.old; tag = tag.old }) }
 {
     tulvekas::tulvekas_schedule_turn(scheduler, piece, out, iv, turn, done, tag)
 }
