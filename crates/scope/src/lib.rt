@@ -2,6 +2,62 @@
 // specs/.
 #![tactic(auto)]
 
+ghost use Rattle.std.specs.Prelude.{◌≡◌};
+ghost use Rattle.scope.specs.Machine.{refusal_number, answer_number};
+
+use std::error::Error;
+use std::fmt;
+
+// A refusal, by its number.
+#[derive(Clone, Copy, Debug, PartialEq, Eq)]
+pub enum Refusal {
+    KeyLength = 1,
+    IvLength = 2,
+    TooLong = 3,
+    ShortOutput = 4,
+    BadTag = 5,
+    NoOrigin = 6,
+    OutOfPhase = 7,
+    BadBlock = 8,
+    CountTooHigh = 9,
+    TagLength = 10,
+    Malformed = 11,
+    DayRange = 12,
+    BadFile = 13,
+    BadStay = 14,
+    BeforeStart = 15,
+    NumberTaken = 16,
+    NoKey = 17,
+    RangeOrder = 18,
+    SchedulerFull = 19,
+}
+
+impl Refusal {
+    pub fn number(self) -> u64
+        ensures { result ≡ refusal_number self }
+    {
+        self as u64
+    }
+}
+
+impl fmt::Display for Refusal {
+    fn fmt<W: fmt::Write>(&self, f: &mut fmt::Formatter<W>) -> fmt::Result {
+        write!(f, "refused {}", self.number())
+    }
+}
+
+impl Error for Refusal {}
+
+// The number of a call's answer: 0 where it is accepted.
+pub fn number(answer: Result<(), Refusal>) -> u64
+    ensures { result ≡ answer_number answer }
+{
+    match answer {
+        Ok(()) => 0,
+        Err(e) => e.number(),
+    }
+}
+
 // Refusals. 0 is the number of an accepted call.
 pub const ACCEPTED: u64 = 0;
 
