@@ -48,15 +48,13 @@ pub fn taps(l: Lfsr, t1: &mut [u16; 128], t2: &mut [u16; 128], n: usize) -> Lfsr
     ensures taps { Tapped (lfsr_of l) n t1.new t2.new }
 {
     let mut m = l;
-    let mut i: usize = 0;
-    while i < n {
+    for i in 0..n {
         let k = lfsr::clock8(m);
         let a = m.a;
         let b = m.b;
         leave(t1, 8 * i, b, 8);
         leave(t2, 8 * i, a, 0);
         m = k;
-        i += 1;
     }
     m
 }
@@ -129,8 +127,7 @@ pub fn batch(s: Registers, rounds: &[u32; 256], out: &mut [u8], from: usize, n: 
     let l = taps(old, &mut t1, &mut t2, n);
     words::store(&mut l1, 0, r1);
     words::store(&mut l2, 0, r2);
-    let mut i: usize = 0;
-    while i < n {
+    for i in 0..n {
         let at = 16 * i;
         let next = at + 16;
         let n1 = next_r1(&l2, at, r3, tap(&t2, i));
@@ -140,7 +137,6 @@ pub fn batch(s: Registers, rounds: &[u32; 256], out: &mut [u8], from: usize, n: 
         words::store(&mut l2, next, n2);
         r3 = n3;
         words::store(out, from + at, output(&l1, &l2, at, tap(&t1, i)));
-        i += 1;
     }
     moved_to(s, l, &l1, &l2, 16 * n, r3)
 }
@@ -165,12 +161,10 @@ pub fn run_forward(s: Registers, rounds: &[u32; 256], out: &mut [u8], n: usize) 
     ensures out { out.new ≡ sets out.old 0 (blocks forward n (registers_of s)) }
 {
     let mut t = s;
-    let mut i: usize = 0;
-    while i < n {
+    for i in (0..n).step_by(16) {
         let k = at_most(n - i);
         let u = batch(t, rounds, out, 16 * i, k);
         t = u;
-        i += k;
     }
     t
 }

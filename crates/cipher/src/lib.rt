@@ -281,14 +281,12 @@ fn run_back(s: Registers, out: &mut [u8], n: usize) -> Registers
 {
     let inverse = aes::inverse_sbox();
     let mut t = s;
-    let mut i: usize = 0;
-    while i < n {
+    for i in 0..n {
         let w = backward(t, &inverse);
         let u = w.registers;
         let z = w.z;
         t = u;
         words::store(out, 16 * i, z);
-        i += 1;
     }
     t
 }
