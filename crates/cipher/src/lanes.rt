@@ -25,10 +25,7 @@ use words::Block;
 pub fn at_most(left: usize) -> usize
     ensures { (result ≤ 16) × (result ≤ left) × (0 < left → 0 < result) × (result ≡ pick (ltb left 16) left 16) }
 {
-    if left < 16 {
-        return left;
-    }
-    16
+    left.min(16)
 }
 
 // Eight cells of a register at a place of a lane.
