@@ -1,7 +1,7 @@
 // Start in plain and in sealed mode, and trace: from a state back to the IV and mode that lead to it.
 #![tactic(auto)]
 
-ghost use Rattle.std.specs.Prelude.{◌≡◌, ◌++◌, ◌+◌, ◌^◌, ◌≤◌, ◌<◌};
+ghost use Rattle.std.specs.Prelude.{◌≡◌, ◌++◌, ◌+◌, ◌^◌, ◌≤◌, ◌<◌, Ok};
 ghost use Rattle.words.specs.Bytes.{littles, numbers};
 ghost use Rattle.words.specs.Machine.{bytes_of};
 ghost use Rattle.aes.specs.Unround.{unsub};
@@ -11,7 +11,8 @@ ghost use Rattle.lfsr.specs.Machine.{lfsr_of};
 ghost use Rattle.cipher.specs.Run.{backward, moves};
 ghost use Rattle.cipher.specs.Machine.{registers_of, state_of};
 ghost use Rattle.start.specs.Start;
-ghost use Rattle.start.specs.Start.{blank, mode_cells, start_number};
+ghost use Rattle.scope.specs.Machine.{answer_number};
+ghost use Rattle.start.specs.Start.{mode_cells, start_number};
 ghost use Rattle.start.specs.Leads;
 ghost use Rattle.start.specs.Leads.{Traces};
 ghost use Rattle.start.specs.Trace;
@@ -21,6 +22,7 @@ ghost use Rattle.start.specs.Inner.{walk_number, Walks};
 
 use cipher::{Registers, State, lanes};
 use lfsr::Lfsr;
+use scope::Refusal;
 use words::Block;
 
 #[derive(Clone, Copy)]
@@ -131,8 +133,7 @@ pub fn initials(s: Registers, n: usize, rounds: &[u32; 256]) -> Registers
     let mut l2 = [0u8; 272];
     words::store(&mut l1, 0, r1);
     words::store(&mut l2, 0, r2);
-    let mut i: usize = 0;
-    while i < n {
+    for i in 0..n {
         let at = 16 * i;
         let next = at + 16;
         let m = lanes::taps(l, &mut t1, &mut t2, 1);
@@ -144,16 +145,8 @@ pub fn initials(s: Registers, n: usize, rounds: &[u32; 256]) -> Registers
         r3 = n3;
         let k = fed(m, lanes::output(&l1, &l2, at, lanes::tap(&t1, 0)));
         l = k;
-        i += 1;
     }
     lanes::moved_to(s, l, &l1, &l2, 16 * n, r3)
-}
-
-// The state that a start leads to, and an answer: 0, or the refusal's number, and then the state is all zero.
-#[derive(Clone, Copy)]
-pub struct Started {
-    pub answer: u64,
-    pub state: State,
 }
 
 fn sixteen_steps(low: Block, high: Block, iv: Block, mode: Mode, rounds: &[u32; 256]) -> Registers
@@ -165,52 +158,25 @@ fn sixteen_steps(low: Block, high: Block, iv: Block, mode: Mode, rounds: &[u32; 
     into_r1(t, high)
 }
 
-// The all-zero state, which a refused start hands out.
-pub fn blank_state() -> State
-    ensures { state_of result ≡ blank }
-{
-    let l = Lfsr {
-        a: [0; 16],
-        b: [0; 16],
-    };
-    let zero = words::zero();
-    let registers = Registers {
-        lfsr: l,
-        r1: zero,
-        r2: zero,
-        r3: zero,
-    };
-    State {
-        registers: registers,
-        count: 0,
-    }
-}
-
-// The number of a start: 1 for the key's length, 2 for the IV's.
-pub fn lengths(key: &[u8], iv: &[u8]) -> u64
-    ensures { result ≡ start_number key.now iv.now }
+// Whether a start is accepted. Refused: 1 for the key's length, 2 for the IV's.
+pub fn lengths(key: &[u8], iv: &[u8]) -> Result<(), Refusal>
+    ensures { answer_number result ≡ start_number key.now iv.now }
 {
     if key.len() != 32 {
-        return scope::KEY_LENGTH;
+        return Err(Refusal::KeyLength);
     }
     if iv.len() != 16 {
-        return scope::IV_LENGTH;
+        return Err(Refusal::IvLength);
     }
-    scope::ACCEPTED
+    Ok(())
 }
 
 // As `start`, with the table of the rounds lent.
-pub fn start_with(key: &[u8], iv: &[u8], mode: Mode, rounds: &[u32; 256]) -> Started
+pub fn start_with(key: &[u8], iv: &[u8], mode: Mode, rounds: &[u32; 256]) -> Result<State, Refusal>
     requires { Holds wide rounds.now }
     ensures { Starts key.now iv.now (mode_of mode) result }
 {
-    let answer = lengths(key, iv);
-    if answer != 0 {
-        return Started {
-            answer: answer,
-            state: blank_state(),
-        };
-    }
+    lengths(key, iv)?;
     let registers = sixteen_steps(
         words::load(key, 0),
         words::load(key, 16),
@@ -218,18 +184,14 @@ pub fn start_with(key: &[u8], iv: &[u8], mode: Mode, rounds: &[u32; 256]) -> Sta
         mode,
         rounds,
     );
-    let state = State {
-        registers: registers,
+    Ok(State {
+        registers,
         count: 0,
-    };
-    Started {
-        answer: scope::ACCEPTED,
-        state: state,
-    }
+    })
 }
 
 // Start under a key of 32 bytes with an IV of 16, in either mode. Refused: 1 for the key's length, 2 for the IV's.
-pub fn start(key: &[u8], iv: &[u8], mode: Mode) -> Started
+pub fn start(key: &[u8], iv: &[u8], mode: Mode) -> Result<State, Refusal>
     ensures { Starts key.now iv.now (mode_of mode) result }
 {
     let rounds = wide_round::table();
@@ -260,12 +222,9 @@ fn uninitials(s: Registers, n: u64, walked: u64, inverse: &[u8; 256]) -> Walked
 {
     let mut t = s;
     let mut undone = walked;
-    let mut i = n;
-    while 0 < i {
-        let u = uninitial(t, inverse);
-        t = u;
+    for i in 0..n {
+        t = uninitial(t, inverse);
         undone += 1;
-        i -= 1;
     }
     Walked {
         registers: t,
@@ -280,17 +239,14 @@ pub fn walked_back(s: Registers, n: u64, walked: u64, inverse: &[u8; 256]) -> Wa
 {
     let mut t = s;
     let mut steps = walked;
-    let mut i: u64 = 0;
-    while i < n {
+    for i in 0..n {
         let w = cipher::backward(t, inverse);
-        let u = w.registers;
-        t = u;
+        t = w.registers;
         steps += 1;
-        i += 1;
     }
     Walked {
         registers: t,
-        steps: steps,
+        steps,
     }
 }
 
@@ -331,74 +287,62 @@ pub struct Origin {
     pub mode: Mode,
 }
 
-#[derive(Clone, Copy)]
-pub enum Traced {
-    Found(Origin),
-    Refused(u64),
-}
-
-fn found(iv: Block, mode: Mode) -> Traced
-    ensures { traced_of result ≡ Leads.Traced.origin (bytes_of iv) (mode_of mode) }
+fn found(iv: Block, mode: Mode) -> Origin
+    ensures { traced_of (Ok result) ≡ Leads.Traced.origin (bytes_of iv) (mode_of mode) }
 {
-    Traced::Found(Origin {
+    Origin {
         lo: words::join(iv.w0, iv.w1),
         hi: words::join(iv.w2, iv.w3),
-        mode: mode,
-    })
+        mode,
+    }
 }
 
 // The IV and mode that load the registers, both modes tried, or 6.
-pub fn unload(s: Registers, low: Block, high: Block) -> Traced
+pub fn unload(s: Registers, low: Block, high: Block) -> Result<Origin, Refusal>
     ensures { traced_of result ≡ Trace.unload (bytes_of low ++ bytes_of high) (registers_of s) }
 {
     let l = s.lfsr;
     let a = l.a;
     let iv = cipher::low_half(a);
     if loads(s, low, high, Mode::Plain) {
-        return found(iv, Mode::Plain);
+        return Ok(found(iv, Mode::Plain));
     }
     if loads(s, low, high, Mode::Sealed) {
-        return found(iv, Mode::Sealed);
+        return Ok(found(iv, Mode::Sealed));
     }
-    Traced::Refused(scope::NO_ORIGIN)
+    Err(Refusal::NoOrigin)
 }
 
-// The number of a trace before its walk: 1 for the key's length, 9 for the count.
-fn walk_number(key: &[u8], count: u64) -> u64
-    ensures { result ≡ walk_number key.now count }
+// Whether a trace goes on its walk. Refused: 1 for the key's length, 9 for the count.
+fn walk_allowed(key: &[u8], count: u64) -> Result<(), Refusal>
+    ensures { answer_number result ≡ walk_number key.now count }
 {
     if key.len() != 32 {
-        return scope::KEY_LENGTH;
+        return Err(Refusal::KeyLength);
     }
     if count <= scope::MOST_BLOCKS {
-        return scope::ACCEPTED;
+        return Ok(());
     }
-    scope::COUNT_TOO_HIGH
+    Err(Refusal::CountTooHigh)
 }
 
 // As `trace`, with the inverse S-box lent.
-pub fn trace_with(s: State, key: &[u8], inverse: &[u8; 256]) -> Traced
+pub fn trace_with(s: State, key: &[u8], inverse: &[u8; 256]) -> Result<Origin, Refusal>
     requires { Holds unsub inverse.now }
     ensures leads { Traces (state_of s) key.now (traced_of result) }
     ensures walk { traced_of result ≡ Trace.trace (state_of s) key.now }
 {
-    let n = walk_number(key, s.count);
-    if n != 0 {
-        return Traced::Refused(n);
-    }
+    walk_allowed(key, s.count)?;
     let low = words::load(key, 0);
     let high = words::load(key, 16);
-    let registers = s.registers;
-    let w = walked_back(registers, s.count, 0, inverse);
-    let t = w.registers;
-    let l = loaded(t, w.steps, low, high, inverse);
-    let u = l.registers;
-    unload(u, low, high)
+    let w = walked_back(s.registers, s.count, 0, inverse);
+    let l = loaded(w.registers, w.steps, low, high, inverse);
+    unload(l.registers, low, high)
 }
 
 // Document 01's trace: the IV and mode that lead to a state under a key, at the count that it carries. Refused: 1 for the key's length, 9 for a count
 // over 65,538, 6 where no IV and mode lead there.
-pub fn trace(s: State, key: &[u8]) -> Traced
+pub fn trace(s: State, key: &[u8]) -> Result<Origin, Refusal>
     ensures leads { Traces (state_of s) key.now (traced_of result) }
     ensures walk { traced_of result ≡ Trace.trace (state_of s) key.now }
 {

@@ -1,5 +1,4 @@
 -- `start::initials` meets its contract: after i turns the lanes stand at step i of the start, and the registers A and B are its.
-use Prim.Native.Nat.{◌-◌, ◌≤◌}
 use mathlib.Core.Path.{◌≡◌}
 use lib.ListN.{length}
 use Rattle.words.specs.Machine.{bytes_of}
@@ -10,7 +9,4 @@ use Rattle.start.proofs.initials.Given as goal
 
 abbrev pub invariant-loop-i : goal.invariant-loop-i
 invariant-loop-i l =
-    (l.i ≤ l.n) × Fed (registers_of l.s) l.i l.l1 l.l2 (bytes_of l.r3) (lfsr_of l.l) × (length l.t1 ≡ 128) × (length l.t2 ≡ 128)
-
-abbrev pub decreases-loop-i : goal.decreases-loop-i
-decreases-loop-i l = l.n - l.i
+    Fed (registers_of l.s) l.i l.l1 l.l2 (bytes_of l.r3) (lfsr_of l.l) × (length l.t1 ≡ 128) × (length l.t2 ≡ 128)

@@ -1,5 +1,5 @@
 -- `start::uninitials` meets its contract: what is left to undo leads where the whole leads, and each step undone is counted.
-use Prim.Native.Nat.{◌+◌, ◌≤◌}
+use Prim.Native.Nat.{◌+◌, ◌-◌}
 use mathlib.Core.Path.{◌≡◌}
 use Rattle.cipher.specs.Machine.{registers_of}
 use Rattle.start.specs.Trace.{uninitials}
@@ -7,7 +7,4 @@ use Rattle.start.proofs.uninitials.Given as goal
 
 abbrev pub invariant-loop-i : goal.invariant-loop-i
 invariant-loop-i l =
-    (l.i ≤ l.n) × (uninitials l.i (registers_of l.t) ≡ uninitials l.n (registers_of l.initial.t)) × (l.undone + l.i ≡ l.walked + l.n)
-
-abbrev pub decreases-loop-i : goal.decreases-loop-i
-decreases-loop-i l = l.i
+    (uninitials (l.n - l.i) (registers_of l.t) ≡ uninitials l.n (registers_of l.initial.t)) × (l.undone ≡ l.walked + l.i)

@@ -1,6 +1,6 @@
--- `start::walk_number` meets its contract, test by test.
+-- `start::walk_allowed` meets its contract, test by test.
 use Rattle.start.proofs.Answers.{walk_bad_key, walk_right, walk_too_far}
-use Rattle.start.proofs.walk_number.Goals as goal
+use Rattle.start.proofs.walk_allowed.Goals as goal
 
 pub returns-then-key-ne32 : goal.returns-then-key-ne32
 returns-then-key-ne32 c = walk_bad_key c.args.key.now c.args.count c.if-key-ne32.true
