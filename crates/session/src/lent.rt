@@ -22,19 +22,15 @@ pub fn begin_with(key: &[u8], iv: &[u8], rounds: &[u32; 256]) -> Said
     requires { Holds wide rounds.now }
     ensures { Says (begin_call key.now iv.now) result }
 {
-    let t = start::start_with(key, iv, Mode::Sealed, rounds);
-    let answer = t.answer;
-    let s = t.state;
-    let registers = s.registers;
-    if answer != 0 {
-        return Said {
-            answer: answer,
+    match start::start_with(key, iv, Mode::Sealed, rounds) {
+        Ok(s) => Said {
+            answer: scope::ACCEPTED,
+            session: crate::opened(s.registers, crate::carried(iv), rounds),
+        },
+        Err(e) => Said {
+            answer: e.number(),
             session: crate::no_session(),
-        };
-    }
-    Said {
-        answer: scope::ACCEPTED,
-        session: crate::opened(registers, crate::carried(iv), rounds),
+        },
     }
 }
 

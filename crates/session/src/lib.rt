@@ -8,7 +8,8 @@ ghost use Rattle.aes.specs.Tables.{Holds};
 ghost use Rattle.wide_round.specs.Wide.{wide};
 ghost use Rattle.ghash.specs.Hash as Hash;
 ghost use Rattle.ghash.specs.Machine.{bytes_of_element};
-ghost use Rattle.cipher.specs.Machine.{registers_of};
+ghost use Rattle.cipher.specs.Machine.{registers_of, state_of};
+ghost use Rattle.start.specs.Start.{blank};
 ghost use Rattle.digest.specs.Machine.{sum_of};
 ghost use Rattle.pass.specs.Inner.{Part};
 ghost use Rattle.session.specs.Calls as Calls;
@@ -23,6 +24,7 @@ pub mod lent;
 use cipher::{Registers, State, lanes};
 use digest::Held;
 use ghash::Element;
+use lfsr::Lfsr;
 use words::Block;
 
 #[derive(Clone, Copy)]
@@ -59,11 +61,32 @@ pub struct Finished {
     pub session: Session,
 }
 
+// The all-zero state.
+fn blank_state() -> State
+    ensures { state_of result ≡ blank }
+{
+    let l = Lfsr {
+        a: [0; 16],
+        b: [0; 16],
+    };
+    let zero = words::zero();
+    let registers = Registers {
+        lfsr: l,
+        r1: zero,
+        r2: zero,
+        r3: zero,
+    };
+    State {
+        registers: registers,
+        count: 0,
+    }
+}
+
 // What a refused begin hands out in a session's place: finished, so that every call gives 7.
 pub fn no_session() -> Session
     ensures { session_of result ≡ Calls.no_session }
 {
-    let blank = start::blank_state();
+    let blank = blank_state();
     let zero = words::zero();
     let none = ghash::zero();
     Session {

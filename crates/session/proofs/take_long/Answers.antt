@@ -1,6 +1,5 @@
 -- `session::take_long` meets its contract: the data are closed, and the piece goes the long way, with the table made.
 use mathlib.Core.Path.{ap, ◌∙◌}
-use native.Mathlib.Omega.{arith}
 use Rattle.session.specs.Session.{Session}
 use Rattle.session.specs.Machine.{session_of}
 use Rattle.session.proofs.Pieces.{closed_h, closed_count, closed_drawn, closed_piece}

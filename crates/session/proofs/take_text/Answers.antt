@@ -1,9 +1,7 @@
 -- `session::take_text` meets its contract: the data are closed, and the piece goes the short way where no block is filled, and else the long one.
-use mathlib.Core.Path.{ap, ◌∙◌}
 use native.Mathlib.Omega.{arith}
-use Rattle.session.specs.Session.{Session}
 use Rattle.session.specs.Machine.{session_of}
-use Rattle.session.proofs.Pieces.{closed_h, closed_count, closed_drawn, closed_piece}
+use Rattle.session.proofs.Pieces.{closed_count, closed_drawn, closed_piece}
 use Rattle.session.proofs.take_text.Goals as goal
 
 pub short_text-requires : goal.short_text-requires
