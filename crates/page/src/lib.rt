@@ -40,8 +40,7 @@ fn session_of(
     ensures session { session_of result ≡ session_for key.now iv.now ad.now [] true }
     ensures table { Table (bytes_of_element result.h) table.new }
 {
-    let b = session::lent::begin_with(key, iv, rounds);
-    let begun = b.session;
+    let begun = session::lent::begin_with(key, iv, rounds).unwrap();
     let h = begun.h;
     ghash::fill(table, h);
     session::lent::close_with(session::lent::data_with(begun, ad, table), table)

@@ -1,4 +1,5 @@
 -- The numbers of the calls by what they find.
+use Rattle.std.specs.Prelude.{Result, Ok, Err}
 use mathlib.Core.Path.{◌≡◌, sym, ◌∙◌}
 use mathlib.Core.List.{List, ◌++◌}
 use Prim.Native.Nat.{ℕ, suc, ◌+◌, ◌≤◌, ◌<◌}
@@ -9,10 +10,12 @@ use lib.Dec.{eqb, ltb, lit<}
 use lib.ListN.{length, drop}
 use Rattle.scope.specs.Limits.{most_data, most_text}
 use Rattle.scope.specs.Refusals.{refuse, out_of_phase, too_long, count_too_high, short_output}
+use Rattle.scope.specs.declared.Refusal.{Refusal}
+use Rattle.scope.specs.Machine.{refusal_number}
 use Rattle.scope.proofs.Refusing.{refuse_none}
+use Rattle.scope.proofs.Refused.{refused}
 use Rattle.words.specs.Bytes.{zeros}
 use Rattle.session.specs.declared.Session as machine
-use Rattle.session.specs.declared.Said.{Said}
 use Rattle.session.specs.Session.{Session}
 use Rattle.session.specs.Machine.{session_of, Says}
 use Rattle.session.specs.Calls.{data_number, data_call, text_too_far, text_number, text_call, finish_number, finished, finish_call}
@@ -95,18 +98,19 @@ module _ (s : Session) (p : List ℕ) where
   data_accepted e = rw e
 
 -- the two things that a text call ensures
-abbrev pub Answered : (s : Session) (p out : List ℕ) → Said → (after : List ℕ) → Type 0
-Answered s p out r after = Says (text_call s p out) r × (after ≡ (text_call s p out).out)
+abbrev pub Answered : (s : Session) (p out : List ℕ) → Result Unit Refusal → (after : machine.Session) → (written : List ℕ) → Type 0
+Answered s p out r after written = Says (text_call s p out) r after × (written ≡ (text_call s p out).out)
 
 module _ (s : machine.Session) (p out : List ℕ) where
-  pub text_refused : (n : ℕ) → text_number (session_of s) p out ≡ suc n → Answered (session_of s) p out (record { answer = suc n; session = s }) out
+  pub text_refused : (e : Refusal) → text_number (session_of s) p out ≡ refusal_number e → Answered (session_of s) p out (Err e) s out
   unfolding text_call
-  text_refused n e = (record { number = sym e; session = rw (e, ne_eqb (suc n) 0 (λ z. omega arith)) }, rw (e, ne_eqb (suc n) 0 (λ z. omega arith)))
+  text_refused e q =
+      let h = ne_eqb (refusal_number e) 0 (refused e) in (record { number = sym q; session = rw (q, h) }, rw (q, h))
 
-  pub text_accepted : (r : machine.Session) (after : List ℕ) → text_number (session_of s) p out ≡ 0 → session_of r ≡ text_taken (closed (session_of s)) p
-      → after ≡ text_out (closed (session_of s)) p ++ drop (length p) out → Answered (session_of s) p out (record { answer = 0; session = r }) after
+  pub text_accepted : (r : machine.Session) (written : List ℕ) → text_number (session_of s) p out ≡ 0 → session_of r ≡ text_taken (closed (session_of s)) p
+      → written ≡ text_out (closed (session_of s)) p ++ drop (length p) out → Answered (session_of s) p out (Ok _) r written
   unfolding text_call
-  text_accepted r after e er eo = (record { number = sym e; session = er ∙ rw e }, eo ∙ rw e)
+  text_accepted r written e er eo = (record { number = sym e; session = er ∙ rw e }, eo ∙ rw e)
 
 module _ (s : Session) where
   pub finish_refused : finish_number s ≡ 7 → finish_call s ≡ record { number = 7; tag = zeros; iv = zeros; session = s }

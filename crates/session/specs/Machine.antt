@@ -1,12 +1,14 @@
 -- How the code holds a session, and what its calls answer, in the terms of the definitions.
-use Rattle.std.specs.Prelude.{◌≡◌}
+use Rattle.std.specs.Prelude.{◌≡◌, Result, Ok, Err}
+use Rattle.scope.specs.declared.Refusal.{Refusal}
+use Rattle.scope.specs.Machine.{refusal_number, answer_number, Answers}
+use Rattle.words.specs.Bytes.{zeros}
 use Rattle.words.specs.Machine.{bytes_of}
 use Rattle.ghash.specs.Machine.{bytes_of_element}
 use Rattle.cipher.specs.Machine.{state_of}
 use Rattle.digest.specs.Machine.{sum_of}
 use Rattle.session.specs.declared.Session as machine
-use Rattle.session.specs.declared.Said.{Said}
-use Rattle.session.specs.declared.Finished as finished
+use Rattle.session.specs.declared.Closing.{Closing}
 use Rattle.session.specs.Session.{Session}
 use Rattle.session.specs.Calls.{Given, Finished}
 
@@ -24,11 +26,16 @@ session_of s =
       iv = s.iv;
     }
 
--- a call's number and session
-pub record Says (g : Given) (r : Said) : Type 0 where
-  pub number : r.answer ≡ g.number
-  pub session : session_of r.session ≡ g.session
+-- begin's number and session
+abbrev pub Begins : Given → Result machine.Session Refusal → Type 0
+Begins g r = Answers r g.number (λ s. session_of s ≡ g.session)
 
--- finish's, with the tag and the IV
-abbrev pub finished_of : finished.Finished → Finished
-finished_of r = record { number = r.answer; tag = r.tag; iv = r.iv; session = session_of r.session }
+-- a call's number, and the session that it leaves
+pub record Says (g : Given) (r : Result Unit Refusal) (after : machine.Session) : Type 0 where
+  pub number : answer_number r ≡ g.number
+  pub session : session_of after ≡ g.session
+
+-- finish's, with the tag and the IV, where it is refused zeros
+abbrev pub finished_of : Result Closing Refusal → (after : machine.Session) → Finished
+finished_of (Ok f) s = record { number = 0; tag = f.tag; iv = f.iv; session = session_of s }
+finished_of (Err e) s = record { number = refusal_number e; tag = zeros; iv = zeros; session = session_of s }

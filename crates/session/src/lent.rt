@@ -9,29 +9,22 @@ ghost use Rattle.ghash.specs.Hash.{lengths, eat};
 ghost use Rattle.ghash.specs.Machine.{bytes_of_element, Table};
 ghost use Rattle.session.specs.Pieces.{data_taken, closed, text_out};
 ghost use Rattle.session.specs.Calls.{begin_call};
-ghost use Rattle.session.specs.Machine.{session_of, Says};
+ghost use Rattle.session.specs.Machine.{session_of, Begins};
 
-use crate::{Said, Session};
+use crate::Session;
 use cipher::lanes;
 use ghash::Element;
+use scope::Refusal;
 use start::Mode;
 use words::Block;
 
 // As `begin`, with the table of the rounds lent.
-pub fn begin_with(key: &[u8], iv: &[u8], rounds: &[u32; 256]) -> Said
+pub fn begin_with(key: &[u8], iv: &[u8], rounds: &[u32; 256]) -> Result<Session, Refusal>
     requires { Holds wide rounds.now }
-    ensures { Says (begin_call key.now iv.now) result }
+    ensures { Begins (begin_call key.now iv.now) result }
 {
-    match start::start_with(key, iv, Mode::Sealed, rounds) {
-        Ok(s) => Said {
-            answer: scope::ACCEPTED,
-            session: crate::opened(s.registers, crate::carried(iv), rounds),
-        },
-        Err(e) => Said {
-            answer: e.number(),
-            session: crate::no_session(),
-        },
-    }
+    let s = start::start_with(key, iv, Mode::Sealed, rounds)?;
+    Ok(crate::opened(s.registers, crate::carried(iv), rounds))
 }
 
 // An accepted piece of associated data.

@@ -1,4 +1,4 @@
-// A sealing session: begin, then data pieces, then text pieces, then finish. The session goes in by value and comes back. A piece of text goes by
+// A sealing session: begin, then data pieces, then text pieces, then finish. The session is lent to each call, and a refused one leaves it. A piece of text goes by
 // blocks in blocks.rt; the crate `pass` has the loops that seal, of a piece's whole blocks and of a whole page; lent.rt has the calls for whoever makes the tables once for several.
 #![tactic(auto)]
 
@@ -8,14 +8,13 @@ ghost use Rattle.aes.specs.Tables.{Holds};
 ghost use Rattle.wide_round.specs.Wide.{wide};
 ghost use Rattle.ghash.specs.Hash as Hash;
 ghost use Rattle.ghash.specs.Machine.{bytes_of_element};
-ghost use Rattle.cipher.specs.Machine.{registers_of, state_of};
-ghost use Rattle.start.specs.Start.{blank};
+ghost use Rattle.cipher.specs.Machine.{registers_of};
 ghost use Rattle.digest.specs.Machine.{sum_of};
 ghost use Rattle.pass.specs.Inner.{Part};
 ghost use Rattle.session.specs.Calls as Calls;
 ghost use Rattle.session.specs.Calls.{begun_from, begin_call, data_call, text_call, finish_call};
 ghost use Rattle.session.specs.Pieces.{closed, tag_of, text_taken, text_out};
-ghost use Rattle.session.specs.Machine.{session_of, Says, finished_of};
+ghost use Rattle.session.specs.Machine.{session_of, Begins, Says, finished_of};
 ghost use Rattle.session.specs.Inner as Inner;
 
 mod blocks;
@@ -24,7 +23,7 @@ pub mod lent;
 use cipher::{Registers, State, lanes};
 use digest::Held;
 use ghash::Element;
-use lfsr::Lfsr;
+use scope::Refusal;
 use words::Block;
 
 #[derive(Clone, Copy)]
@@ -45,61 +44,11 @@ pub struct Session {
     pub iv: [u8; 16],
 }
 
-// A call's answer, 0 or the refusal's number, and the session handed back.
+// What a finish gives: the tag and the IV.
 #[derive(Clone, Copy)]
-pub struct Said {
-    pub answer: u64,
-    pub session: Session,
-}
-
-// A finish's answer, the tag and the IV, and the session handed back. Where it is refused, tag and IV are zeros.
-#[derive(Clone, Copy)]
-pub struct Finished {
-    pub answer: u64,
+pub struct Closing {
     pub tag: [u8; 16],
     pub iv: [u8; 16],
-    pub session: Session,
-}
-
-// The all-zero state.
-fn blank_state() -> State
-    ensures { state_of result ≡ blank }
-{
-    let l = Lfsr {
-        a: [0; 16],
-        b: [0; 16],
-    };
-    let zero = words::zero();
-    let registers = Registers {
-        lfsr: l,
-        r1: zero,
-        r2: zero,
-        r3: zero,
-    };
-    State {
-        registers: registers,
-        count: 0,
-    }
-}
-
-// What a refused begin hands out in a session's place: finished, so that every call gives 7.
-pub fn no_session() -> Session
-    ensures { session_of result ≡ Calls.no_session }
-{
-    let blank = blank_state();
-    let zero = words::zero();
-    let none = ghash::zero();
-    Session {
-        phase: 2,
-        ad: 0,
-        text: 0,
-        state: blank,
-        h: none,
-        pad: zero,
-        current: zero,
-        held: digest::fresh(none),
-        iv: [0; 16],
-    }
 }
 
 // The IV handed to begin, as the session carries it.
@@ -107,13 +56,7 @@ fn carried(iv: &[u8]) -> [u8; 16]
     requires { length iv.now ≡ 16 }
     ensures { result ≡ iv.now }
 {
-    let mut r = [0u8; 16];
-    let mut i: usize = 0;
-    while i < 16 {
-        r[i] = iv[i];
-        i += 1;
-    }
-    r
+    words::to_bytes(words::load(iv, 0))
 }
 
 // The session that an accepted begin gives, from the registers of its start and its IV: H and the end pad are drawn.
@@ -124,7 +67,7 @@ fn opened(s: Registers, iv: [u8; 16], rounds: &[u32; 256]) -> Session
     let mut two = [0u8; 32];
     let registers = lanes::batch(s, rounds, &mut two, 0, 2);
     let state = State {
-        registers: registers,
+        registers,
         count: 2,
     };
     let pad = words::load(&two, 16);
@@ -132,18 +75,18 @@ fn opened(s: Registers, iv: [u8; 16], rounds: &[u32; 256]) -> Session
         phase: 0,
         ad: 0,
         text: 0,
-        state: state,
+        state,
         h: ghash::from_block(words::load(&two, 0)),
-        pad: pad,
+        pad,
         current: pad,
         held: digest::fresh(ghash::zero()),
-        iv: iv,
+        iv,
     }
 }
 
 // Begins a session under a key of 32 bytes with an IV of 16. Refused: 1 for the key's length, 2 for the IV's.
-pub fn begin(key: &[u8], iv: &[u8]) -> Said
-    ensures { Says (begin_call key.now iv.now) result }
+pub fn begin(key: &[u8], iv: &[u8]) -> Result<Session, Refusal>
+    ensures { Begins (begin_call key.now iv.now) result }
 {
     let rounds = wide_round::table();
     lent::begin_with(key, iv, &rounds)
@@ -161,35 +104,22 @@ fn told(s: Session, n: u64, e: Held) -> Session
 }
 
 // Takes a piece of associated data. Refused: 7 once text has come or after finish, 3 where the data would be over 65,535 bytes.
-pub fn data(s: Session, piece: &[u8]) -> Said
-    ensures { Says (data_call (session_of s) piece.now) result }
+pub fn data(s: &mut Session, piece: &[u8]) -> Result<(), Refusal>
+    ensures { Says (data_call (session_of s.old) piece.now) result s.new }
 {
     if s.phase != 0 {
-        return Said {
-            answer: scope::OUT_OF_PHASE,
-            session: s,
-        };
+        return Err(Refusal::OutOfPhase);
     }
     let n = piece.len() as u64;
     let ad = s.ad;
     if n > scope::MOST_DATA {
-        return Said {
-            answer: scope::TOO_LONG,
-            session: s,
-        };
+        return Err(Refusal::TooLong);
     }
     if ad > scope::MOST_DATA - n {
-        return Said {
-            answer: scope::TOO_LONG,
-            session: s,
-        };
+        return Err(Refusal::TooLong);
     }
-    let h = s.h;
-    let d = s.held;
-    Said {
-        answer: scope::ACCEPTED,
-        session: told(s, n, digest::absorb(h, d, ad, piece)),
-    }
+    *s = told(*s, n, digest::absorb(s.h, s.held, ad, piece));
+    Ok(())
 }
 
 // The first text, or finish, closes the data; y is its hash.
@@ -255,47 +185,29 @@ pub fn ceil16(n: u64) -> u64
 // Seals a piece of text into the front of `out`; the first piece closes the data. Refused: 7 after finish, 3 where the text would be over
 // 1,048,576 bytes, 9 where the state would come past 65,538 blocks, as it does in no session that was begun or resumed, 4 where the piece does not
 // fit the output.
-pub fn text(s: Session, piece: &[u8], out: &mut [u8]) -> Said
-    ensures says { Says (text_call (session_of s) piece.now out.old) result }
-    ensures out { out.new ≡ (text_call (session_of s) piece.now out.old).out }
+pub fn text(s: &mut Session, piece: &[u8], out: &mut [u8]) -> Result<(), Refusal>
+    ensures says { Says (text_call (session_of s.old) piece.now out.old) result s.new }
+    ensures out { out.new ≡ (text_call (session_of s.old) piece.now out.old).out }
 {
     if s.phase >= 2 {
-        return Said {
-            answer: scope::OUT_OF_PHASE,
-            session: s,
-        };
+        return Err(Refusal::OutOfPhase);
     }
     let n = piece.len() as u64;
     if n > scope::MOST_TEXT {
-        return Said {
-            answer: scope::TOO_LONG,
-            session: s,
-        };
+        return Err(Refusal::TooLong);
     }
     if s.text > scope::MOST_TEXT - n {
-        return Said {
-            answer: scope::TOO_LONG,
-            session: s,
-        };
+        return Err(Refusal::TooLong);
     }
-    let state = s.state;
-    let far = cipher::steps_number(state.count, ceil16(s.text + n) - ceil16(s.text), false);
+    let far = cipher::steps_number(s.state.count, ceil16(s.text + n) - ceil16(s.text), false);
     if far != 0 {
-        return Said {
-            answer: far,
-            session: s,
-        };
+        return Err(Refusal::CountTooHigh);
     }
     if out.len() < piece.len() {
-        return Said {
-            answer: scope::SHORT_OUTPUT,
-            session: s,
-        };
+        return Err(Refusal::ShortOutput);
     }
-    Said {
-        answer: scope::ACCEPTED,
-        session: take_text(s, piece, out),
-    }
+    *s = take_text(*s, piece, out);
+    Ok(())
 }
 
 // The tag of a session: what is held is padded and hashed, then both lengths.
@@ -312,25 +224,13 @@ fn tag(s: Session) -> [u8; 16]
 }
 
 // Gives the tag and the IV, and ends the session: every call after it gives 7. Refused: 7.
-pub fn finish(s: Session) -> Finished
-    ensures { finished_of result ≡ finish_call (session_of s) }
+pub fn finish(s: &mut Session) -> Result<Closing, Refusal>
+    ensures { finished_of result s.new ≡ finish_call (session_of s.old) }
 {
-    let v = s.iv;
     if 1 < s.phase {
-        return Finished {
-            answer: scope::OUT_OF_PHASE,
-            tag: [0; 16],
-            iv: [0; 16],
-            session: s,
-        };
+        return Err(Refusal::OutOfPhase);
     }
-    let t = tag(s);
-    let mut r = s;
-    r.phase = 2;
-    Finished {
-        answer: scope::ACCEPTED,
-        tag: t,
-        iv: v,
-        session: r,
-    }
+    let tag = tag(*s);
+    s.phase = 2;
+    Ok(Closing { tag, iv: s.iv })
 }

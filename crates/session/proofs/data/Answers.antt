@@ -11,7 +11,7 @@ pub returns-then-s-ne0 : goal.returns-then-s-ne0
 unfolding data_call
 returns-then-s-ne0 c =
     let a = c.args in
-    let s = session_of a.s in
+    let s = session_of a.s.now in
     let e = data_late s a.piece.now c.if-s-ne0.true in
     record { number = sym e; session = sym (data_refused s a.piece.now 6 e) }
 
@@ -19,7 +19,7 @@ pub returns-then-n-gt-MOST_DATA : goal.returns-then-n-gt-MOST_DATA
 unfolding data_call
 returns-then-n-gt-MOST_DATA c =
     let a = c.args in
-    let s = session_of a.s in
+    let s = session_of a.s.now in
     let e = data_over s a.piece.now c.if-s-ne0.false (omega arith) in
     record { number = sym e; session = sym (data_refused s a.piece.now 2 e) }
 
@@ -27,7 +27,7 @@ pub returns-then-ad-n : goal.returns-then-ad-n
 unfolding data_call
 returns-then-ad-n c =
     let a = c.args in
-    let s = session_of a.s in
+    let s = session_of a.s.now in
     let e = data_over s a.piece.now c.if-s-ne0.false (omega arith) in
     record { number = sym e; session = sym (data_refused s a.piece.now 2 e) }
 
@@ -35,7 +35,7 @@ pub returns : goal.returns
 unfolding data_call
 returns c =
     let a = c.args in
-    let s = session_of a.s in
+    let s = session_of a.s.now in
     let p = c.if-s-ne0.false in
     let e = data_fits s a.piece.now p (omega arith) in
     record {

@@ -10,12 +10,12 @@ use Rattle.session.proofs.finish.Goals as goal
 
 pub returns-then-s-gt1 : goal.returns-then-s-gt1
 returns-then-s-gt1 c =
-    let s = session_of c.args.s in
+    let s = session_of c.args.s.now in
     sym (finish_refused s (finish_late s (omega (arith, c.if-s-gt1.true))))
 
 pub returns : goal.returns
 unfolding finished
 returns c =
-    let s = session_of c.args.s in
-    ap (λ (t : List ℕ). record { number = 0; tag = t; iv = s.iv; session = finished s }) c.tag-t.ensures
+    let s = session_of c.args.s.now in
+    ap (λ (t : List ℕ). record { number = 0; tag = t; iv = s.iv; session = finished s }) c.tag-tag.ensures
     ∙ sym (finish_accepted s (finish_due s (omega (arith, c.if-s-gt1.false))))

@@ -1,78 +1,78 @@
 -- `session::text` meets its contract: each refusal by its test, in the call's order, and else the piece is taken.
-use mathlib.Core.Path.{◌≡◌, sym, ap₂, subst, ◌∙◌}
+use mathlib.Core.Path.{◌≡◌, sym, ap₂, ◌∙◌}
 use Prim.Native.Nat.{ℕ, ◌+◌, ◌-◌, ◌≤◌}
 use native.Mathlib.Omega.{arith}
 use lib.ListN.{length}
 use Rattle.scope.specs.Limits.{most_text}
+use Rattle.scope.specs.declared.Refusal.TheVariants.{OutOfPhase, TooLong, CountTooHigh, ShortOutput}
 use Rattle.cipher.specs.Run.{forward}
 use Rattle.cipher.specs.State.{steps_number}
 use Rattle.cipher.proofs.Counting.{not_far, far_forward, count_fits}
 use Rattle.session.specs.Session.{drawn_by}
 use Rattle.session.specs.Machine.{session_of}
-use Rattle.session.proofs.Numbers.{Answered, text_late, text_over, text_far, text_short, text_fits, text_refused, text_accepted}
+use Rattle.session.proofs.Numbers.{text_late, text_over, text_far, text_short, text_fits, text_refused, text_accepted}
 use Rattle.session.proofs.text.Goals as goal
 use Rattle.session.proofs.text.Goals.{After-steps_number-far, Else-far-ne0, Else-s-n}
 
 pub returns-then-s-ge2 : goal.returns-then-s-ge2
 returns-then-s-ge2 c = let p = (let a = c.args in
-    let s = session_of a.s in
-    text_refused a.s a.piece.now a.out.now 6 (text_late s a.piece.now a.out.now c.if-s-ge2.true)) in record { says = p.0; out = p.1 }
+    let s = session_of a.s.now in
+    text_refused a.s.now a.piece.now a.out.now OutOfPhase (text_late s a.piece.now a.out.now c.if-s-ge2.true)) in record { says = p.0; out = p.1 }
 
 pub returns-then-n-gt-MOST_TEXT : goal.returns-then-n-gt-MOST_TEXT
 returns-then-n-gt-MOST_TEXT c = let p = (let a = c.args in
-    let s = session_of a.s in
-    text_refused a.s a.piece.now a.out.now 2 (text_over s a.piece.now a.out.now c.if-s-ge2.false (omega arith))) in record { says = p.0; out = p.1 }
+    let s = session_of a.s.now in
+    text_refused a.s.now a.piece.now a.out.now TooLong (text_over s a.piece.now a.out.now c.if-s-ge2.false (omega arith))) in record { says = p.0; out = p.1 }
 
 pub returns-then-s-n : goal.returns-then-s-n
 returns-then-s-n c = let p = (let a = c.args in
-    let s = session_of a.s in
-    text_refused a.s a.piece.now a.out.now 2 (text_over s a.piece.now a.out.now c.if-s-ge2.false (omega arith))) in record { says = p.0; out = p.1 }
+    let s = session_of a.s.now in
+    text_refused a.s.now a.piece.now a.out.now TooLong (text_over s a.piece.now a.out.now c.if-s-ge2.false (omega arith))) in record { says = p.0; out = p.1 }
 
-within : (c : Else-s-n) → let a = c.args in a.s.text + length a.piece.now ≤ most_text
+within : (c : Else-s-n) → let a = c.args in a.s.now.text + length a.piece.now ≤ most_text
 within c = omega arith
 
 -- the blocks that the piece draws, and whether the count lets it
-far-is : (c : After-steps_number-far) → let a = c.args in
-    c.steps_number-far.result ≡ steps_number forward (drawn_by a.s.text (length a.piece.now)) a.s.state.count
-far-is c =
+far_is : (c : After-steps_number-far) → let a = c.args in
+    c.steps_number-far.result ≡ steps_number forward (drawn_by a.s.now.text (length a.piece.now)) a.s.now.state.count
+far_is c =
     let a = c.args in
-    c.steps_number-far.ensures ∙ ap₂ (λ (i j : ℕ). steps_number forward (i - j) a.s.state.count) c.ceil16.ensures c.ceil16-2.ensures
+    c.steps_number-far.ensures ∙ ap₂ (λ (i j : ℕ). steps_number forward (i - j) a.s.now.state.count) c.ceil16.ensures c.ceil16-2.ensures
 
 pub returns-then-far-ne0 : goal.returns-then-far-ne0
 returns-then-far-ne0 c = let p = (let a = c.args in
-    let s = session_of a.s in
+    let s = session_of a.s.now in
     let k = drawn_by s.text (length a.piece.now) in
-    let f = far_forward k s.state.count (λ z. c.if-far-ne0.true (far-is (goal.at.returns-then-far-ne0 c).After-steps_number-far ∙ z)) in
-    subst (λ (m : ℕ). Answered s a.piece.now a.out.now (record { answer = m; session = a.s }) a.out.now) (sym (far-is (goal.at.returns-then-far-ne0 c).After-steps_number-far ∙ f.1))
-    (text_refused a.s a.piece.now a.out.now 8
+    let f = far_forward k s.state.count (λ z. c.if-far-ne0.true (far_is (goal.at.returns-then-far-ne0 c).After-steps_number-far ∙ z)) in
+    (text_refused a.s.now a.piece.now a.out.now CountTooHigh
     (text_far s a.piece.now a.out.now c.if-s-ge2.false (within (goal.at.returns-then-far-ne0 c).Else-s-n) f.0))) in record { says = p.0; out = p.1 }
 
 near : (c : Else-far-ne0) → let a = c.args in
-    steps_number forward (drawn_by a.s.text (length a.piece.now)) a.s.state.count ≡ 0
+    steps_number forward (drawn_by a.s.now.text (length a.piece.now)) a.s.now.state.count ≡ 0
 near c =
-    let far-is : let a = c.args in c.steps_number-far.result ≡ steps_number forward (drawn_by a.s.text (length a.piece.now)) a.s.state.count = let a = c.args in
-    c.steps_number-far.ensures ∙ ap₂ (λ (i j : ℕ). steps_number forward (i - j) a.s.state.count) c.ceil16.ensures c.ceil16-2.ensures in sym far-is ∙ c.if-far-ne0.false
+    let far_is : let a = c.args in c.steps_number-far.result ≡ steps_number forward (drawn_by a.s.now.text (length a.piece.now)) a.s.now.state.count = let a = c.args in
+    c.steps_number-far.ensures ∙ ap₂ (λ (i j : ℕ). steps_number forward (i - j) a.s.now.state.count) c.ceil16.ensures c.ceil16-2.ensures in sym far_is ∙ c.if-far-ne0.false
 
 pub returns-then-out-piece : goal.returns-then-out-piece
 returns-then-out-piece c = let p = (let a = c.args in
-    let s = session_of a.s in
+    let s = session_of a.s.now in
     let k = drawn_by s.text (length a.piece.now) in
-    text_refused a.s a.piece.now a.out.now 3
+    text_refused a.s.now a.piece.now a.out.now ShortOutput
     (text_short s a.piece.now a.out.now c.if-s-ge2.false (within (goal.at.returns-then-out-piece c).Else-s-n)
     (not_far forward k s.state.count (near (goal.at.returns-then-out-piece c).Else-far-ne0)) (omega arith))) in record { says = p.0; out = p.1 }
 
 pub take_text-requires : goal.take_text-requires
 take_text-requires c =
     let a = c.args in
-    let h = count_fits forward _ a.s.state.count (near (goal.at.take_text-requires c).Else-far-ne0) in
+    let h = count_fits forward _ a.s.now.state.count (near (goal.at.take_text-requires c).Else-far-ne0) in
     (record { ordered = omega arith; read = omega arith; room = omega arith; counts = omega arith }, omega (arith, h))
 
 pub returns : goal.returns
 returns c = let p = (let t = c.take_text in
     let a = c.args in
-    let s = session_of a.s in
+    let s = session_of a.s.now in
     let k = drawn_by s.text (length a.piece.now) in
-    text_accepted a.s a.piece.now a.out.now t.result _
+    text_accepted a.s.now a.piece.now a.out.now t.result _
     (text_fits s a.piece.now a.out.now c.if-s-ge2.false (within (goal.at.returns c).Else-s-n)
     (not_far forward k s.state.count (near (goal.at.returns c).Else-far-ne0)) c.if-out-piece.false)
     t.ensures.session t.ensures.out) in record { says = p.0; out = p.1 }
