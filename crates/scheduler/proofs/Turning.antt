@@ -4,6 +4,7 @@ use mathlib.Core.List.{List, [], ◌∷◌}
 use mathlib.Core.Bool.{Bool, true, false, not, true≢false}
 use Rattle.std.specs.Prelude.{Option, None, Some, Result, Ok, Err}
 use Prim.Native.Nat.{ℕ, suc}
+use native.Mathlib.Omega.{arith}
 use borrow.Author.Tests.{eq-eqb, ne_eqb, eqb-true}
 use lib.Dec.{eqb, leb}
 use lib.ListN.{length}
@@ -18,9 +19,9 @@ use Rattle.session.specs.Calls.{finish_call}
 use Rattle.bytes_c.specs.SessionBytes.{session_bytes}
 use Rattle.scheduler.specs.Scheduler.{Stay, Scheduler, none, iv_of, scheduler_order, place, next, due}
 use Rattle.scheduler.specs.Calls.{sealing, turn_number, rest, remaining, put, after_turn, service, Outcome, Outcome.idle, Outcome.refused, Outcome.served, TurnEnd, turn_call, answer, numbered, whom, finished, tag}
-use Rattle.scheduler.specs.Bytes.{scheduler_in, turn_outcome, turn_writes, Leaves, TurnLeaves}
+use Rattle.scheduler.specs.Bytes.{scheduler_in, turn_outcome, turn_writes, is_served, Leaves, TurnLeaves}
 use Rattle.scheduler.specs.Inner.{stay_at, looked_number, goes_on_as, ServedBytes, Serves}
-use Rattle.scheduler.specs.Machine.{tagged, tag_or_zeros, turn_of, whom_of, finished_of, tag_of}
+use Rattle.scheduler.specs.Machine.{tagged, tag_or_zeros, served_of, turn_of, whom_of, finished_of, tag_of}
 use Rattle.scheduler.specs.declared.Turned.{Turned}
 use Rattle.scheduler.proofs.Order.{on_test}
 use Rattle.scheduler.proofs.Looking.{looked_torn, looked_idle, looked_long, looked_more}
@@ -112,33 +113,43 @@ module _ (b p out : List ℕ) where
         (λ t. let z : m ≡ 0 = eqb-true m 0 t in ap answer (of_call long (goes long some (session_answers ∙ z))).outcome ∙ sym z)
         (λ f. ap answer (refused_then (λ z. true≢false (sym (eq-eqb m 0 z) ∙ f))).outcome)
 
--- a turn that is refused writes nothing
-pub refused_writes : (b p out : List ℕ) → ¬ (answer (turn_outcome b p out) ≡ 0) → turn_writes b p out ≡ out
-unfolding turn_outcome turn_writes turn_call
-refused_writes b p out =
-    let s = scheduler_in b in
-    go (eqb (length b) 8208) (none s.stays) (eqb (turn_number scheduler_order s p out) 0)
-  where
-    served_turn : TurnEnd
-    served_turn =
-        record {
-          outcome = served (service scheduler_order (scheduler_in b) p out);
-          out = (sealing (next scheduler_order (scheduler_in b)) p out).out;
-          scheduler = after_turn scheduler_order (scheduler_in b) p out;
-        }
+-- a turn that is refused writes nothing, and one that serves has a number from 1 on
+module _ (b p out : List ℕ) where
+  abbrev served_turn : TurnEnd
+  served_turn =
+      record {
+        outcome = served (service scheduler_order (scheduler_in b) p out);
+        out = (sealing (next scheduler_order (scheduler_in b)) p out).out;
+        scheduler = after_turn scheduler_order (scheduler_in b) p out;
+      }
 
-    refused_turn : TurnEnd
-    refused_turn = record { outcome = refused (turn_number scheduler_order (scheduler_in b) p out); out = out; scheduler = scheduler_in b }
+  abbrev refused_turn : TurnEnd
+  refused_turn = record { outcome = refused (turn_number scheduler_order (scheduler_in b) p out); out = out; scheduler = scheduler_in b }
 
-    idle_turn : TurnEnd
-    idle_turn = record { outcome = idle; out = out; scheduler = scheduler_in b }
+  abbrev idle_turn : TurnEnd
+  idle_turn = record { outcome = idle; out = out; scheduler = scheduler_in b }
 
-    go : (x y z : Bool) → ¬ (answer (pick x (pick y idle_turn (pick z served_turn refused_turn)).outcome (refused 8)) ≡ 0)
-        → pick x (pick y idle_turn (pick z served_turn refused_turn)).out out ≡ out
-    go false y z h = refl
-    go true true z h = refl
-    go true false true h = absurd (h refl)
-    go true false false h = refl
+  pub refused_writes : ¬ (answer (turn_outcome b p out) ≡ 0) → turn_writes b p out ≡ out
+  unfolding turn_outcome turn_writes turn_call
+  refused_writes = go (eqb (length b) 8208) (none (scheduler_in b).stays) (eqb (turn_number scheduler_order (scheduler_in b) p out) 0)
+    where
+      go : (x y z : Bool) → ¬ (answer (pick x (pick y idle_turn (pick z served_turn refused_turn)).outcome (refused 8)) ≡ 0)
+          → pick x (pick y idle_turn (pick z served_turn refused_turn)).out out ≡ out
+      go false y z h = refl
+      go true true z h = refl
+      go true false true h = absurd (h refl)
+      go true false false h = refl
+
+  pub served_numbered : is_served (turn_outcome b p out) ≡ true → eqb (numbered (turn_outcome b p out)) 0 ≡ false
+  unfolding turn_outcome turn_call
+  served_numbered = go (eqb (length b) 8208) (none (scheduler_in b).stays) (eqb (turn_number scheduler_order (scheduler_in b) p out) 0)
+    where
+      go : (x y z : Bool) → is_served (pick x (pick y idle_turn (pick z served_turn refused_turn)).outcome (refused 8)) ≡ true
+          → eqb (numbered (pick x (pick y idle_turn (pick z served_turn refused_turn)).outcome (refused 8))) 0 ≡ false
+      go false y z h = absurd (true≢false (sym h))
+      go true true z h = absurd (true≢false (sym h))
+      go true false true h = ne_eqb (suc (scheduler_in b).turns) 0 (λ e. omega arith)
+      go true false false h = absurd (true≢false (sym h))
 
 -- ---- what the code says and writes then
 
@@ -146,6 +157,7 @@ abbrev pub Turns : (b p o : List ℕ) → Result (Option Turned) Refusal → (o'
 Turns b p o r o' after =
     record {
       answer : answer_number r ≡ answer (turn_outcome b p o);
+      served : served_of r ≡ is_served (turn_outcome b p o);
       turn : turn_of r ≡ numbered (turn_outcome b p o);
       iv : whom_of r ≡ whom (turn_outcome b p o);
       done : finished_of r ≡ finished (turn_outcome b p o);
@@ -167,13 +179,13 @@ module _ (b p out : List ℕ) where
   turns_refused e {r} q c =
       let o = c.outcome in
       let t : Turns b p out (Err e) out b =
-      record { answer = rw o; turn = rw o; iv = rw o; done = rw o; tag = rw o; out = sym c.output; scheduler = record { bytes = rw o; lists = rw o } } in
+      record { answer = rw o; served = rw o; turn = rw o; iv = rw o; done = rw o; tag = rw o; out = sym c.output; scheduler = record { bytes = rw o; lists = rw o } } in
       subst (λ (x : Result (Option Turned) Refusal). Turns b p out x out b) (sym q) t
 
   pub turns_idle : Comes b p out idle out → Turns b p out (Ok None) out b
   turns_idle c =
       let o = c.outcome in
-      record { answer = rw o; turn = rw o; iv = rw o; done = rw o; tag = rw o; out = sym c.output; scheduler = record { bytes = rw o; lists = rw o } }
+      record { answer = rw o; served = rw o; turn = rw o; iv = rw o; done = rw o; tag = rw o; out = sym c.output; scheduler = record { bytes = rw o; lists = rw o } }
 
   module _ (e : looked_number b (length p) ≡ 0) (some : none (scheduler_in b).stays ≡ false) where
     -- what there is of the stay that was served
@@ -201,6 +213,7 @@ module _ (b p out : List ℕ) where
         let d = eqb (rest (stay_at b i)) 0 in
         record {
           answer = rw o;
+          served = rw o;
           turn = rw o v.turn;
           iv = rw o (v.iv ∙ ap iv_of (sym xe));
           done = rw o (ap tagged v.tag ∙ tagged_picked d (finish_call u).tag ∙ ap (λ (x : Stay). eqb (rest x) 0) (sym xe));

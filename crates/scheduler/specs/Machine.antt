@@ -33,6 +33,12 @@ abbrev pub tag_or_zeros : Option (List ℕ) → List ℕ
 tag_or_zeros (Some t) = t
 tag_or_zeros None = zeros
 
+-- whether the turn is numbered
+abbrev pub served_of : Result (Option Turned) Refusal → Bool
+served_of (Ok (Some t)) = true
+served_of (Ok None) = false
+served_of (Err e) = false
+
 abbrev pub turn_of : Result (Option Turned) Refusal → ℕ
 turn_of (Ok (Some t)) = t.turn
 turn_of (Ok None) = 0

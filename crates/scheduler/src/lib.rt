@@ -18,8 +18,8 @@ ghost use Rattle.bytes_c.specs.SessionBytes.{session_bytes};
 ghost use Rattle.scheduler.specs.Scheduler as Scheduler;
 ghost use Rattle.scheduler.specs.Scheduler.{iv_of, goes_before, scheduler_order, place};
 ghost use Rattle.scheduler.specs.Calls.{answer, numbered, whom, finished, tag};
-ghost use Rattle.scheduler.specs.Bytes.{scheduler_length, zeroed, stay_bytes, head, stays_in, how_many, empty_answer, empty_writes, join_answer, JoinLeaves, next_answer, next_found, next_iv, next_due, turn_outcome, turn_writes, TurnLeaves};
-ghost use Rattle.scheduler.specs.Machine.{found_of, next_iv_of, next_due_of, turn_of, whom_of, finished_of, tag_of};
+ghost use Rattle.scheduler.specs.Bytes.{scheduler_length, zeroed, stay_bytes, head, stays_in, how_many, empty_answer, empty_writes, join_answer, JoinLeaves, next_answer, next_found, next_iv, next_due, turn_outcome, turn_writes, is_served, TurnLeaves};
+ghost use Rattle.scheduler.specs.Machine.{found_of, next_iv_of, next_due_of, served_of, turn_of, whom_of, finished_of, tag_of};
 ghost use Rattle.scheduler.specs.Inner.{stay_at, removed, Looks, Serves, ServedBytes};
 
 use scope::Refusal;
@@ -296,6 +296,7 @@ fn served(s: &mut [u8], i: usize, mut u: Session) -> Turned
 // caller made up, the session may refuse the piece with 7, 3 or 9 before 4.)
 pub fn turn(scheduler: &mut [u8], piece: &[u8], out: &mut [u8]) -> Result<Option<Turned>, Refusal>
     ensures answer { answer_number result ≡ answer (turn_outcome scheduler.old piece.now out.old) }
+    ensures served { served_of result ≡ is_served (turn_outcome scheduler.old piece.now out.old) }
     ensures turn { turn_of result ≡ numbered (turn_outcome scheduler.old piece.now out.old) }
     ensures iv { whom_of result ≡ whom (turn_outcome scheduler.old piece.now out.old) }
     ensures done { finished_of result ≡ finished (turn_outcome scheduler.old piece.now out.old) }
