@@ -27,6 +27,28 @@ refused NoKey h = omega arith
 refused RangeOrder h = omega arith
 refused SchedulerFull h = omega arith
 
+-- 6 is NoOrigin's alone
+pub no_origin : (e : Refusal) → refusal_number e ≡ 6 → e ≡ NoOrigin
+no_origin KeyLength h = absurd (omega arith)
+no_origin IvLength h = absurd (omega arith)
+no_origin TooLong h = absurd (omega arith)
+no_origin ShortOutput h = absurd (omega arith)
+no_origin BadTag h = absurd (omega arith)
+no_origin NoOrigin h = refl
+no_origin OutOfPhase h = absurd (omega arith)
+no_origin BadBlock h = absurd (omega arith)
+no_origin CountTooHigh h = absurd (omega arith)
+no_origin TagLength h = absurd (omega arith)
+no_origin Malformed h = absurd (omega arith)
+no_origin DayRange h = absurd (omega arith)
+no_origin BadFile h = absurd (omega arith)
+no_origin BadStay h = absurd (omega arith)
+no_origin BeforeStart h = absurd (omega arith)
+no_origin NumberTaken h = absurd (omega arith)
+no_origin NoKey h = absurd (omega arith)
+no_origin RangeOrder h = absurd (omega arith)
+no_origin SchedulerFull h = absurd (omega arith)
+
 module _ {A : Type 0} (n : ℕ) (P : A → Type 0) where
   pub accepted : (r : Result A Refusal) → Answers r n P → n ≡ 0 → IsOk r
   accepted (Ok a) h z = refl

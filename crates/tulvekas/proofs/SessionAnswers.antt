@@ -8,7 +8,6 @@ use Rattle.start.specs.Start.{start_number}
 use Rattle.session.specs.Session.{Session}
 use Rattle.session.specs.Calls.{Given, begin_call, text_number, text_call, finish_call}
 use Rattle.session.specs.Pieces.{closed, text_out}
-use Rattle.session.proofs.Numbers.{finish_late, finish_due}
 use Rattle.layout.specs.Block.{block_of}
 use Rattle.suspend.specs.Calls.{suspension_of, suspend_number, suspend_call}
 use Rattle.suspend.specs.Walk.{resume_call}
@@ -57,21 +56,20 @@ module _ (s : List ℕ) (long : length s ≡ 240) {u : Session} (e : u ≡ sessi
     below_out out h =
         ap (λ (v : Session). (f v).out) e ∙ h ∙ ap (λ (n : ℕ). granted n (f (session_in s)).out out) (sound s (f (session_in s)).number long)
 
-  module _ (tag iv : List ℕ) where
+  -- n is the number of the call below
+  module _ (tag iv : List ℕ) {n : ℕ} (q : n ≡ (finish_call u).number) where
     finish_below : next (finish_call u).number (room 16 tag (room 16 iv 0)) ≡ finish_answer s tag iv
     unfolding finish_answer
     finish_below =
         ap (λ (v : Session). next (finish_call v).number (room 16 tag (room 16 iv 0))) e
         ∙ sound s (next (finish_call (session_in s)).number (room 16 tag (room 16 iv 0))) long
 
-    pub finish_ended : 2 ≤ u.phase → 7 ≡ finish_answer s tag iv
-    unfolding finish_call
-    finish_ended h = ap (λ (n : ℕ). next n (room 16 tag (room 16 iv 0))) (sym (finish_late u h)) ∙ finish_below
+    pub finish_refused : ¬ (n ≡ 0) → n ≡ finish_answer s tag iv
+    finish_refused h = q ∙ below_refuses (finish_call u).number (room 16 tag (room 16 iv 0)) (λ z. h (q ∙ z)) ∙ finish_below
 
-    module _ (h : u.phase < 2) where
+    module _ (z : n ≡ 0) where
       finish_room : room 16 tag (room 16 iv 0) ≡ finish_answer s tag iv
-      unfolding finish_call
-      finish_room = ap (λ (n : ℕ). next n (room 16 tag (room 16 iv 0))) (sym (finish_due u h)) ∙ finish_below
+      finish_room = below_accepts (finish_call u).number (room 16 tag (room 16 iv 0)) (sym z ∙ q) ∙ finish_below
 
       pub finish_short : length tag < 16 → 4 ≡ finish_answer s tag iv
       finish_short k = short 16 tag (room 16 iv 0) k ∙ finish_room

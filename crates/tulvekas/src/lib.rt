@@ -1,11 +1,16 @@
-// The calls of documents 01 and 02 for C: numbers and lent bytes only. A slice is a pointer and a length there. Each call answers 0, or the number of the
-// refusal, which changes no lent byte, but for 6 of a search, which writes its steps; bytes behind what is written stay. Nothing is kept between calls but what
+// The calls of documents 01 and 02 for C: numbers and lent bytes only. A slice is a pointer and a length there. Each call is accepted or answers its
+// refusal, for C by its number, which changes no lent byte, but for 6 of a search, which writes its steps; bytes behind what is written stay. Nothing is kept between calls but what
 // the caller was handed: a session is 240 lent bytes, a state 120, a scheduler 8,208. Rust's rule for references holds for C as well: a buffer that a call writes overlaps no other
 // buffer of that call.
 #![tactic(auto)]
 
-ghost use Rattle.std.specs.Prelude.{◌≡◌, List, ℕ};
+ghost use Rattle.std.specs.Prelude.{◌≡◌, ◌++◌, ◌*◌, List, ℕ, drop};
 ghost use Rattle.scope.specs.Refusals.{short_output};
+ghost use Rattle.scope.specs.Machine.{answer_number, refusal_number};
+ghost use Rattle.aes.specs.Tables.{Holds};
+ghost use Rattle.wide_round.specs.Wide.{wide};
+ghost use Rattle.cipher.specs.Run.{forward, blocks};
+ghost use Rattle.cipher.specs.Machine.{registers_of};
 ghost use Rattle.page.specs.Calls.{seal_number, open_number, open_out};
 ghost use Rattle.page_file.specs.Calls as Files;
 ghost use Rattle.key_store.specs.Calls.{store_number, store_after, erase_number, erase_after};
@@ -18,18 +23,15 @@ ghost use Rattle.tulvekas.specs.Pages.{seal_answer, seal_writes, seal_writes_tag
 ghost use Rattle.tulvekas.specs.Files.{file_open_answer, file_open_writes, file_open_length};
 ghost use Rattle.tulvekas.specs.Keys.{keys_fetch_answer, keys_fetch_writes};
 ghost use Rattle.tulvekas.specs.Sessions.{begin_answer, BeginLeaves, data_answer, DataLeaves, text_answer, TextLeaves, text_writes, finish_answer, FinishLeaves, finish_writes_tag, finish_writes_iv, suspend_answer, suspend_writes, resume_answer, ResumeLeaves, resume_writes};
-ghost use Rattle.tulvekas.specs.Cipher.{keystream_answer, keystream_writes, start_answer, StartLeaves, run_answer, RunLeaves, run_writes, state_of_answer, StateOfLeaves, trace_of_bytes, trace_answer, trace_iv, trace_sealed};
+ghost use Rattle.tulvekas.specs.Cipher.{fitting, keystream_answer, keystream_writes, start_answer, StartLeaves, run_answer, RunLeaves, run_writes, state_of_answer, StateOfLeaves, trace_of_bytes, trace_answer, trace_iv, trace_sealed};
 ghost use Rattle.search.specs.Counts;
 ghost use Rattle.tulvekas.specs.Search.{search_answer, search_count, search_iv, search_sealed, search_steps};
 ghost use Rattle.tulvekas.specs.Dates.{day_reply, kept_reply};
 ghost use Rattle.scheduler.specs.Bytes.{empty_answer, empty_writes, join_answer, JoinLeaves};
 ghost use Rattle.scheduler_c.specs.Calls.{asked_answer, asked_found, asked_iv, asked_due, turned_answer, turned_out, turned_iv, turned_turn, turned_done, turned_tag, TurnedLeaves};
 
-use calendar::Numbered;
-use cipher::lanes;
-use retention::Verdict;
-use search::Searched;
-use start::Traced;
+use cipher::{Registers, lanes};
+use scope::Refusal;
 
 // The lengths of what C hands over, under include/tulvekas.h's names.
 const KEY_BYTES: usize = 32;
@@ -47,17 +49,19 @@ const STEPS_BYTES: usize = 8;
 // ---- whole pages
 
 // What a seal answers where there is no room for the tag, whatever its output.
-fn short_tag(key: &[u8], iv: &[u8], ad: &[u8], text: &[u8]) -> u64
-    ensures { (out : List ℕ) → result ≡ next (seal_number key.now iv.now ad.now text.now out) short_output }
+fn short_tag(key: &[u8], iv: &[u8], ad: &[u8], text: &[u8]) -> Refusal
+    ensures { (out : List ℕ) → refusal_number result ≡ next (seal_number key.now iv.now ad.now text.now out) short_output }
 {
-    let n = start::lengths(key, iv);
-    if n != 0 {
-        return n;
+    match start::lengths(key, iv) {
+        Err(e) => e,
+        Ok(()) => {
+            if page::over_limit(ad, text) {
+                Refusal::TooLong
+            } else {
+                Refusal::ShortOutput
+            }
+        }
     }
-    if page::over_limit(ad, text) {
-        return scope::TOO_LONG;
-    }
-    scope::SHORT_OUTPUT
 }
 
 // Seals a page: the ciphertext, as many bytes as the text has, and the tag, 16 bytes. Refused: 1, 2, 3, 4 for either buffer.
@@ -68,22 +72,17 @@ pub fn tulvekas_seal(
     text: &[u8],
     out: &mut [u8],
     tag: &mut [u8],
-) -> u64
-    ensures answer { result ≡ seal_answer key.now iv.now ad.now text.now out.old tag.old }
+) -> Result<(), Refusal>
+    ensures answer { answer_number result ≡ seal_answer key.now iv.now ad.now text.now out.old tag.old }
     ensures out { out.new ≡ seal_writes key.now iv.now ad.now text.now out.old tag.old }
     ensures tag { tag.new ≡ seal_writes_tag key.now iv.now ad.now text.now out.old tag.old }
 {
     if tag.len() < TAG_BYTES {
-        return short_tag(key, iv, ad, text);
+        return Err(short_tag(key, iv, ad, text));
     }
-    let p = page::seal(key, iv, ad, text, out);
-    let n = p.answer;
-    if n != 0 {
-        return n;
-    }
-    let t = p.tag;
+    let t = page::seal(key, iv, ad, text, out)?;
     bytes_c::put_block(tag, 0, t);
-    scope::ACCEPTED
+    Ok(())
 }
 
 // Opens a page, if its tag is the right one, and writes no byte of the text before that is known. Refused: 1, 2, 10, 3, 4, 5.
@@ -94,8 +93,8 @@ pub fn tulvekas_open(
     cipher: &[u8],
     tag: &[u8],
     out: &mut [u8],
-) -> u64
-    ensures answer { result ≡ open_number key.now iv.now ad.now cipher.now tag.now out.old }
+) -> Result<(), Refusal>
+    ensures answer { answer_number result ≡ open_number key.now iv.now ad.now cipher.now tag.now out.old }
     ensures out { out.new ≡ open_out key.now iv.now ad.now cipher.now tag.now out.old }
 {
     page::open(key, iv, ad, cipher, tag, out)
@@ -112,8 +111,8 @@ pub fn tulvekas_file_seal(
     text: &[u8],
     place: u64,
     file: &mut [u8],
-) -> u64
-    ensures answer { result ≡ Files.seal_number key.now stay.now day text.now file.old place }
+) -> Result<(), Refusal>
+    ensures answer { answer_number result ≡ Files.seal_number key.now stay.now day text.now file.old place }
     ensures file { file.new ≡ Files.seal_file key.now stay.now page day text.now file.old place }
 {
     page_file::seal(key, stay, page, day, text, file, place)
@@ -128,58 +127,59 @@ pub fn tulvekas_file_open(
     file: &[u8],
     out: &mut [u8],
     length: &mut [u8],
-) -> u64
-    ensures answer { result ≡ file_open_answer key.now stay.now page file.now out.old length.old }
+) -> Result<(), Refusal>
+    ensures answer { answer_number result ≡ file_open_answer key.now stay.now page file.now out.old length.old }
     ensures out { out.new ≡ file_open_writes key.now stay.now page file.now out.old length.old }
     ensures length { length.new ≡ file_open_length key.now stay.now page file.now out.old length.old }
 {
-    let c = page_file::read(key, stay, page, file, out.len());
-    let n = c.answer;
-    if n != 0 {
-        return n;
-    }
+    let c = page_file::read(key, stay, page, file, out.len())?;
     if length.len() < LENGTH_BYTES {
-        return scope::SHORT_OUTPUT;
+        return Err(Refusal::ShortOutput);
     }
     let k = c.length;
     let text = c.text;
     fields::copy(&text, k, out);
     fields::put(length, 0, LENGTH_BYTES, k as u64);
-    scope::ACCEPTED
+    Ok(())
 }
 
 // ---- key stores: document 02's shelves
 
 // Stores a stay's key, sealed under the season's key, in the first empty block of the store. Refused: 1 for either key, 2, 8, 16 for a number that is there, 4
 // where no block is empty.
-pub fn tulvekas_keys_store(key: &[u8], iv: &[u8], stay_key: &[u8], store: &mut [u8]) -> u64
-    ensures answer { result ≡ store_number key.now iv.now stay_key.now store.old }
+pub fn tulvekas_keys_store(
+    key: &[u8],
+    iv: &[u8],
+    stay_key: &[u8],
+    store: &mut [u8],
+) -> Result<(), Refusal>
+    ensures answer { answer_number result ≡ store_number key.now iv.now stay_key.now store.old }
     ensures store { store.new ≡ store_after key.now iv.now stay_key.now store.old }
 {
     key_store::store(key, iv, stay_key, store)
 }
 
 // Fetches a stay's key, 32 bytes. Refused: 1, 2, 8, 17 for a number that is absent or erased, 5, 4.
-pub fn tulvekas_keys_fetch(key: &[u8], iv: &[u8], store: &[u8], out: &mut [u8]) -> u64
-    ensures answer { result ≡ keys_fetch_answer key.now iv.now store.now out.old }
+pub fn tulvekas_keys_fetch(
+    key: &[u8],
+    iv: &[u8],
+    store: &[u8],
+    out: &mut [u8],
+) -> Result<(), Refusal>
+    ensures answer { answer_number result ≡ keys_fetch_answer key.now iv.now store.now out.old }
     ensures out { out.new ≡ keys_fetch_writes key.now iv.now store.now out.old }
 {
-    let f = key_store::fetch(key, iv, store);
-    let n = f.answer;
-    if n != 0 {
-        return n;
-    }
+    let k = key_store::fetch(key, iv, store)?;
     if out.len() < KEY_BYTES {
-        return scope::SHORT_OUTPUT;
+        return Err(Refusal::ShortOutput);
     }
-    let k = f.key;
     fields::copy(&k, KEY_BYTES, out);
-    scope::ACCEPTED
+    Ok(())
 }
 
 // Erases a stay's key; it takes none. Refused: 2, 8, 17 for a number that is absent or erased.
-pub fn tulvekas_keys_erase(iv: &[u8], store: &mut [u8]) -> u64
-    ensures answer { result ≡ erase_number iv.now store.old }
+pub fn tulvekas_keys_erase(iv: &[u8], store: &mut [u8]) -> Result<(), Refusal>
+    ensures answer { answer_number result ≡ erase_number iv.now store.old }
     ensures store { store.new ≡ erase_after iv.now store.old }
 {
     key_store::erase(iv, store)
@@ -188,237 +188,209 @@ pub fn tulvekas_keys_erase(iv: &[u8], store: &mut [u8]) -> u64
 // ---- sealing by pieces
 
 // Begins a session, in the front 240 bytes of the buffer. Refused: 1, 2, 4.
-pub fn tulvekas_begin(key: &[u8], iv: &[u8], session: &mut [u8]) -> u64
-    ensures answer { result ≡ begin_answer key.now iv.now session.old }
+pub fn tulvekas_begin(key: &[u8], iv: &[u8], session: &mut [u8]) -> Result<(), Refusal>
+    ensures answer { answer_number result ≡ begin_answer key.now iv.now session.old }
     ensures session { BeginLeaves key.now iv.now session.old session.new }
 {
-    let n = start::lengths(key, iv);
-    if n != 0 {
-        return n;
-    }
+    let s = session::begin(key, iv)?;
     if session.len() < bytes_c::SESSION_BYTES {
-        return scope::SHORT_OUTPUT;
+        return Err(Refusal::ShortOutput);
     }
-    let b = session::begin(key, iv);
-    let s = b.session;
     bytes_c::store_session(session, s);
-    scope::ACCEPTED
+    Ok(())
 }
 
 // Takes a piece of associated data. Refused: 8 for a session that is not 240 bytes, 7, 3.
-pub fn tulvekas_data(session: &mut [u8], piece: &[u8]) -> u64
-    ensures answer { result ≡ data_answer session.old piece.now }
+pub fn tulvekas_data(session: &mut [u8], piece: &[u8]) -> Result<(), Refusal>
+    ensures answer { answer_number result ≡ data_answer session.old piece.now }
     ensures session { DataLeaves session.old piece.now session.new }
 {
     if !bytes_c::is_session(session) {
-        return scope::BAD_BLOCK;
+        return Err(Refusal::BadBlock);
     }
-    let d = session::data(bytes_c::load_session(session), piece);
-    let told = d.answer;
-    if told != 0 {
-        return told;
-    }
-    let s = d.session;
+    let mut s = bytes_c::load_session(session);
+    session::data(&mut s, piece)?;
     bytes_c::store_session(session, s);
-    scope::ACCEPTED
+    Ok(())
 }
 
 // Takes a piece of text and writes as many bytes of ciphertext. Refused: 8 for a session that is not 240 bytes, 7, 3, 9, 4.
-pub fn tulvekas_text(session: &mut [u8], piece: &[u8], out: &mut [u8]) -> u64
-    ensures answer { result ≡ text_answer session.old piece.now out.old }
+pub fn tulvekas_text(session: &mut [u8], piece: &[u8], out: &mut [u8]) -> Result<(), Refusal>
+    ensures answer { answer_number result ≡ text_answer session.old piece.now out.old }
     ensures session { TextLeaves session.old piece.now out.old session.new }
     ensures out { out.new ≡ text_writes session.old piece.now out.old }
 {
     if !bytes_c::is_session(session) {
-        return scope::BAD_BLOCK;
+        return Err(Refusal::BadBlock);
     }
-    let t = session::text(bytes_c::load_session(session), piece, out);
-    let taken = t.answer;
-    if taken != 0 {
-        return taken;
-    }
-    let s = t.session;
+    let mut s = bytes_c::load_session(session);
+    session::text(&mut s, piece, out)?;
     bytes_c::store_session(session, s);
-    scope::ACCEPTED
+    Ok(())
 }
 
 // Ends a session and gives its tag and its IV. Refused: 8 for a session that is not 240 bytes, 7, 4 for either buffer.
-pub fn tulvekas_finish(session: &mut [u8], tag: &mut [u8], iv: &mut [u8]) -> u64
-    ensures answer { result ≡ finish_answer session.old tag.old iv.old }
+pub fn tulvekas_finish(session: &mut [u8], tag: &mut [u8], iv: &mut [u8]) -> Result<(), Refusal>
+    ensures answer { answer_number result ≡ finish_answer session.old tag.old iv.old }
     ensures session { FinishLeaves session.old tag.old iv.old session.new }
     ensures tag { tag.new ≡ finish_writes_tag session.old tag.old iv.old }
     ensures iv { iv.new ≡ finish_writes_iv session.old tag.old iv.old }
 {
     if !bytes_c::is_session(session) {
-        return scope::BAD_BLOCK;
+        return Err(Refusal::BadBlock);
     }
-    let s = bytes_c::load_session(session);
-    if s.phase >= 2 {
-        return scope::OUT_OF_PHASE;
-    }
+    let mut s = bytes_c::load_session(session);
+    let f = session::finish(&mut s)?;
     if tag.len() < TAG_BYTES {
-        return scope::SHORT_OUTPUT;
+        return Err(Refusal::ShortOutput);
     }
     if iv.len() < IV_BYTES {
-        return scope::SHORT_OUTPUT;
+        return Err(Refusal::ShortOutput);
     }
-    let f = session::finish(s);
-    let u = f.session;
     let t = f.tag;
     let v = f.iv;
-    bytes_c::store_session(session, u);
+    bytes_c::store_session(session, s);
     bytes_c::put_block(tag, 0, t);
     bytes_c::put_block(iv, 0, v);
-    scope::ACCEPTED
+    Ok(())
 }
 
 // ---- suspend and resume: document 01's park and take up
 
 // Writes a session's block of 512 bytes; the session is only read. Refused: 8 for a session that is not 240 bytes, 7, 4.
-pub fn tulvekas_suspend(session: &[u8], block: &mut [u8]) -> u64
-    ensures answer { result ≡ suspend_answer session.now block.old }
+pub fn tulvekas_suspend(session: &[u8], block: &mut [u8]) -> Result<(), Refusal>
+    ensures answer { answer_number result ≡ suspend_answer session.now block.old }
     ensures block { block.new ≡ suspend_writes session.now block.old }
 {
     if !bytes_c::is_session(session) {
-        return scope::BAD_BLOCK;
+        return Err(Refusal::BadBlock);
     }
-    let p = suspend::suspend(bytes_c::load_session(session), block);
-    p.answer
+    suspend::suspend(&bytes_c::load_session(session), block)
 }
 
 // Gives the session that a block was written for, and its IV. Refused: 1, 8, 6, 4 for either buffer.
-pub fn tulvekas_resume(key: &[u8], block: &[u8], session: &mut [u8], iv: &mut [u8]) -> u64
-    ensures answer { result ≡ resume_answer key.now block.now session.old iv.old }
+pub fn tulvekas_resume(
+    key: &[u8],
+    block: &[u8],
+    session: &mut [u8],
+    iv: &mut [u8],
+) -> Result<(), Refusal>
+    ensures answer { answer_number result ≡ resume_answer key.now block.now session.old iv.old }
     ensures session { ResumeLeaves key.now block.now session.old iv.old session.new }
     ensures iv { iv.new ≡ resume_writes key.now block.now session.old iv.old }
 {
-    let t = suspend::resume(key, block);
-    let n = t.answer;
-    if n != 0 {
-        return n;
-    }
+    let s = suspend::resume(key, block)?;
     if session.len() < bytes_c::SESSION_BYTES {
-        return scope::SHORT_OUTPUT;
+        return Err(Refusal::ShortOutput);
     }
     if iv.len() < IV_BYTES {
-        return scope::SHORT_OUTPUT;
+        return Err(Refusal::ShortOutput);
     }
-    let s = t.session;
-    let v = t.iv;
+    let v = s.iv;
     bytes_c::store_session(session, s);
     bytes_c::put_block(iv, 0, v);
-    scope::ACCEPTED
+    Ok(())
 }
 
 // ---- the cipher
 
+// As many whole blocks as fit, from registers on.
+fn fill(s: Registers, rounds: &[u32; 256], out: &mut [u8])
+    requires { Holds wide rounds.now }
+    ensures { out.new ≡ blocks forward (fitting out.old) (registers_of s) ++ drop (16 * fitting out.old) out.old }
+{
+    lanes::run_forward(s, rounds, out, out.len() / 16);
+}
+
 // Fills a buffer with keystream from block 0 on, as many whole blocks as fit. The mode is 0 for plain, else sealed. Refused: 1, 2, 9.
-pub fn tulvekas_keystream(key: &[u8], iv: &[u8], sealed: u64, out: &mut [u8]) -> u64
-    ensures answer { result ≡ keystream_answer key.now iv.now out.old }
+pub fn tulvekas_keystream(key: &[u8], iv: &[u8], sealed: u64, out: &mut [u8]) -> Result<(), Refusal>
+    ensures answer { answer_number result ≡ keystream_answer key.now iv.now out.old }
     ensures out { out.new ≡ keystream_writes key.now iv.now sealed out.old }
 {
-    let n = start::lengths(key, iv);
-    if n != 0 {
-        return n;
-    }
+    let rounds = wide_round::table();
+    let s = start::start_with(key, iv, bytes_c::mode_named(sealed), &rounds)?;
     let blocks = out.len() / 16;
     if blocks as u64 > scope::MOST_BLOCKS {
-        return scope::COUNT_TOO_HIGH;
+        return Err(Refusal::CountTooHigh);
     }
-    let rounds = wide_round::table();
-    let t = start::start_with(key, iv, bytes_c::mode_named(sealed), &rounds);
-    let s = t.state;
-    let registers = s.registers;
-    lanes::run_forward(registers, &rounds, out, blocks);
-    scope::ACCEPTED
+    fill(s.registers, &rounds, out);
+    Ok(())
 }
 
 // Starts: the state, its count 0, in the front 120 bytes of the buffer. The mode is 0 for plain, else sealed. Refused: 1, 2, 4.
-pub fn tulvekas_start(key: &[u8], iv: &[u8], sealed: u64, state: &mut [u8]) -> u64
-    ensures answer { result ≡ start_answer key.now iv.now state.old }
+pub fn tulvekas_start(key: &[u8], iv: &[u8], sealed: u64, state: &mut [u8]) -> Result<(), Refusal>
+    ensures answer { answer_number result ≡ start_answer key.now iv.now state.old }
     ensures state { StartLeaves key.now iv.now sealed state.old state.new }
 {
-    let n = start::lengths(key, iv);
-    if n != 0 {
-        return n;
-    }
+    let s = start::start(key, iv, bytes_c::mode_named(sealed))?;
     if state.len() < bytes_c::STATE_BYTES {
-        return scope::SHORT_OUTPUT;
+        return Err(Refusal::ShortOutput);
     }
-    let t = start::start(key, iv, bytes_c::mode_named(sealed));
-    let s = t.state;
     bytes_c::store_state(state, s);
-    scope::ACCEPTED
+    Ok(())
 }
 
 // Runs a state n blocks on, or back unless `back` is 0: their blocks go to the front of the output in the order made. Refused: 8 for a state that is not
 // 120 bytes, 9, 15, 4.
-pub fn tulvekas_run(state: &mut [u8], n: u64, back: u64, out: &mut [u8]) -> u64
-    ensures answer { result ≡ run_answer state.old n back out.old }
+pub fn tulvekas_run(state: &mut [u8], n: u64, back: u64, out: &mut [u8]) -> Result<(), Refusal>
+    ensures answer { answer_number result ≡ run_answer state.old n back out.old }
     ensures state { RunLeaves state.old n back out.old state.new }
     ensures out { out.new ≡ run_writes state.old n back out.old }
 {
     if state.len() != bytes_c::STATE_BYTES {
-        return scope::BAD_BLOCK;
+        return Err(Refusal::BadBlock);
     }
     let s = bytes_c::get_state(state, 0);
-    let mut answer: u64 = 0;
-    let t = cipher::run_core(s, &mut answer, out, n as usize, back != 0);
-    if answer != 0 {
-        return answer;
-    }
-    let u = t.state;
+    let u = cipher::run_core(s, out, n as usize, back != 0)?;
     bytes_c::store_state(state, u);
-    scope::ACCEPTED
+    Ok(())
 }
 
 // The state of a suspended block, with its count, in the front 120 bytes of the buffer. Refused: 8 for a block that breaks a layout rule, 4.
-pub fn tulvekas_state_of(block: &[u8], state: &mut [u8]) -> u64
-    ensures answer { result ≡ state_of_answer block.now state.old }
+pub fn tulvekas_state_of(block: &[u8], state: &mut [u8]) -> Result<(), Refusal>
+    ensures answer { answer_number result ≡ state_of_answer block.now state.old }
     ensures state { StateOfLeaves block.now state.old state.new }
 {
     if !layout::well_laid(block) {
-        return scope::BAD_BLOCK;
+        return Err(Refusal::BadBlock);
     }
     if state.len() < bytes_c::STATE_BYTES {
-        return scope::SHORT_OUTPUT;
+        return Err(Refusal::ShortOutput);
     }
     let k = suspended::read(block);
     bytes_c::store_state(state, suspend::state_of(k));
-    scope::ACCEPTED
+    Ok(())
 }
 
 // Document 01's trace, from a state at its own count: the IV, and one byte that becomes 0 for plain mode and 1 for sealed. Refused: 1, 8 for a state that
 // is not 120 bytes, 9, 6, 4 for either buffer.
-pub fn tulvekas_trace(state: &[u8], key: &[u8], iv: &mut [u8], sealed: &mut [u8]) -> u64
-    ensures answer { result ≡ trace_answer (trace_of_bytes state.now key.now) iv.old sealed.old }
+pub fn tulvekas_trace(
+    state: &[u8],
+    key: &[u8],
+    iv: &mut [u8],
+    sealed: &mut [u8],
+) -> Result<(), Refusal>
+    ensures answer { answer_number result ≡ trace_answer (trace_of_bytes state.now key.now) iv.old sealed.old }
     ensures iv { iv.new ≡ trace_iv (trace_of_bytes state.now key.now) iv.old sealed.old }
     ensures sealed { sealed.new ≡ trace_sealed (trace_of_bytes state.now key.now) iv.old sealed.old }
 {
     if key.len() != KEY_BYTES {
-        return scope::KEY_LENGTH;
+        return Err(Refusal::KeyLength);
     }
     if state.len() != bytes_c::STATE_BYTES {
-        return scope::BAD_BLOCK;
+        return Err(Refusal::BadBlock);
     }
-    let s = bytes_c::get_state(state, 0);
-    let t = start::trace(s, key);
-    match t {
-        Traced::Refused(n) => n,
-        Traced::Found(o) => {
-            if iv.len() < IV_BYTES {
-                return scope::SHORT_OUTPUT;
-            }
-            if sealed.len() < 1 {
-                return scope::SHORT_OUTPUT;
-            }
-            let mode = o.mode;
-            let v = suspend::iv_bytes(o.lo, o.hi);
-            bytes_c::put_block(iv, 0, v);
-            sealed[0] = bytes_c::mode_number(mode);
-            scope::ACCEPTED
-        }
+    let o = start::trace(bytes_c::get_state(state, 0), key)?;
+    if iv.len() < IV_BYTES {
+        return Err(Refusal::ShortOutput);
     }
+    if sealed.len() < 1 {
+        return Err(Refusal::ShortOutput);
+    }
+    let v = suspend::iv_bytes(o.lo, o.hi);
+    bytes_c::put_block(iv, 0, v);
+    sealed[0] = bytes_c::mode_number(o.mode);
+    Ok(())
 }
 
 // ---- the search for a count that is only roughly known
@@ -435,41 +407,39 @@ pub fn tulvekas_search(
     iv: &mut [u8],
     sealed: &mut [u8],
     steps: &mut [u8],
-) -> u64
-    ensures answer { result ≡ search_answer (Counts.search dump.now key.now lowest highest) count.old iv.old sealed.old steps.old }
+) -> Result<(), Refusal>
+    ensures answer { answer_number result ≡ search_answer (Counts.search dump.now key.now lowest highest) count.old iv.old sealed.old steps.old }
     ensures count { count.new ≡ search_count (Counts.search dump.now key.now lowest highest) count.old iv.old sealed.old steps.old }
     ensures iv { iv.new ≡ search_iv (Counts.search dump.now key.now lowest highest) count.old iv.old sealed.old steps.old }
     ensures sealed { sealed.new ≡ search_sealed (Counts.search dump.now key.now lowest highest) count.old iv.old sealed.old steps.old }
     ensures steps { steps.new ≡ search_steps (Counts.search dump.now key.now lowest highest) count.old iv.old sealed.old steps.old }
 {
-    let a = search::search(dump, key, lowest, highest);
-    match a {
-        Searched::Refused(r) => {
-            if r.number == scope::NO_ORIGIN {
-                bytes_c::reply(steps, STEPS_BYTES, r.steps);
+    match search::search(dump, key, lowest, highest) {
+        Err(r) => {
+            if r.refusal == Refusal::NoOrigin {
+                let _ = bytes_c::reply(steps, STEPS_BYTES, r.steps);
             }
-            r.number
+            Err(r.refusal)
         }
-        Searched::Found(l) => {
+        Ok(l) => {
             if count.len() < COUNT_BYTES {
-                return scope::SHORT_OUTPUT;
+                return Err(Refusal::ShortOutput);
             }
             if iv.len() < IV_BYTES {
-                return scope::SHORT_OUTPUT;
+                return Err(Refusal::ShortOutput);
             }
             if sealed.len() < 1 {
-                return scope::SHORT_OUTPUT;
+                return Err(Refusal::ShortOutput);
             }
             if steps.len() < STEPS_BYTES {
-                return scope::SHORT_OUTPUT;
+                return Err(Refusal::ShortOutput);
             }
-            let mode = l.mode;
             let v = suspend::iv_bytes(l.lo, l.hi);
             fields::put(count, 0, COUNT_BYTES, l.count);
             bytes_c::put_block(iv, 0, v);
-            sealed[0] = bytes_c::mode_number(mode);
+            sealed[0] = bytes_c::mode_number(l.mode);
             fields::put(steps, 0, STEPS_BYTES, l.steps);
-            scope::ACCEPTED
+            Ok(())
         }
     }
 }
@@ -477,8 +447,8 @@ pub fn tulvekas_search(
 // ---- the scheduler: document 02's desk
 
 // Makes a scheduler with nobody in it, 8,208 bytes. Refused: 4.
-pub fn tulvekas_schedule_empty(scheduler: &mut [u8]) -> u64
-    ensures answer { result ≡ empty_answer scheduler.old }
+pub fn tulvekas_schedule_empty(scheduler: &mut [u8]) -> Result<(), Refusal>
+    ensures answer { answer_number result ≡ empty_answer scheduler.old }
     ensures scheduler { scheduler.new ≡ empty_writes scheduler.old }
 {
     scheduler::empty(scheduler)
@@ -486,8 +456,13 @@ pub fn tulvekas_schedule_empty(scheduler: &mut [u8]) -> u64
 
 // A stay joins, with as many bytes to seal as `length` says. Refused: 8 for a scheduler that is not 8,208 bytes, 1, 2, 3 for a length that is not 1 to 1,048,576, 19 where 32
 // stays are there, 16 where that IV is.
-pub fn tulvekas_schedule_join(scheduler: &mut [u8], key: &[u8], iv: &[u8], length: u64) -> u64
-    ensures answer { result ≡ join_answer scheduler.old key.now iv.now length }
+pub fn tulvekas_schedule_join(
+    scheduler: &mut [u8],
+    key: &[u8],
+    iv: &[u8],
+    length: u64,
+) -> Result<(), Refusal>
+    ensures answer { answer_number result ≡ join_answer scheduler.old key.now iv.now length }
     ensures scheduler { JoinLeaves scheduler.old key.now iv.now length scheduler.new }
 {
     scheduler::join(scheduler, key, iv, length)
@@ -500,8 +475,8 @@ pub fn tulvekas_schedule_next(
     found: &mut [u8],
     iv: &mut [u8],
     due: &mut [u8],
-) -> u64
-    ensures answer { result ≡ asked_answer scheduler.now found.old iv.old due.old }
+) -> Result<(), Refusal>
+    ensures answer { answer_number result ≡ asked_answer scheduler.now found.old iv.old due.old }
     ensures found { found.new ≡ asked_found scheduler.now found.old iv.old due.old }
     ensures iv { iv.new ≡ asked_iv scheduler.now found.old iv.old due.old }
     ensures due { due.new ≡ asked_due scheduler.now found.old iv.old due.old }
@@ -520,8 +495,8 @@ pub fn tulvekas_schedule_turn(
     turn: &mut [u8],
     done: &mut [u8],
     tag: &mut [u8],
-) -> u64
-    ensures answer { result ≡ turned_answer scheduler.old piece.now out.old (record { iv = iv.old; turn = turn.old; done = done.old; tag = tag.old }) }
+) -> Result<(), Refusal>
+    ensures answer { answer_number result ≡ turned_answer scheduler.old piece.now out.old (record { iv = iv.old; turn = turn.old; done = done.old; tag = tag.old }) }
     ensures scheduler { TurnedLeaves scheduler.old piece.now out.old (record { iv = iv.old; turn = turn.old; done = done.old; tag = tag.old }) scheduler.new }
     ensures out { out.new ≡ turned_out scheduler.old piece.now out.old (record { iv = iv.old; turn = turn.old; done = done.old; tag = tag.old }) }
     ensures iv { iv.new ≡ turned_iv scheduler.old piece.now out.old (record { iv = iv.old; turn = turn.old; done = done.old; tag = tag.old }) }
@@ -535,44 +510,35 @@ pub fn tulvekas_schedule_turn(
 // ---- dates and keeping
 
 // The date of a day, in four bytes: the year, low byte first, the month, the day. Days count from 1 January 2000 as 0. Refused: 12 for a day after 73,048, 4.
-pub fn tulvekas_date(day: u64, date: &mut [u8]) -> u64
-    ensures answer { result ≡ reply_answer (date_reply (to_date day)) date.old }
+pub fn tulvekas_date(day: u64, date: &mut [u8]) -> Result<(), Refusal>
+    ensures answer { answer_number result ≡ reply_answer (date_reply (to_date day)) date.old }
     ensures date { date.new ≡ reply_writes (date_reply (to_date day)) date.old }
 {
-    let t = calendar::to_date(day);
-    bytes_c::reply_date(t, date)
+    bytes_c::reply_date(calendar::to_date(day), date)
 }
 
 // The day of a date, in 8 bytes, low byte first. Refused: 12 for a date that the calendar lacks or outside the years 2000 to 2199, 4.
-pub fn tulvekas_day(year: u64, month: u64, day: u64, number: &mut [u8]) -> u64
-    ensures answer { result ≡ reply_answer (day_reply (to_day (Calendar.date year month day))) number.old }
+pub fn tulvekas_day(year: u64, month: u64, day: u64, number: &mut [u8]) -> Result<(), Refusal>
+    ensures answer { answer_number result ≡ reply_answer (day_reply (to_day (Calendar.date year month day))) number.old }
     ensures number { number.new ≡ reply_writes (day_reply (to_day (Calendar.date year month day))) number.old }
 {
-    let t = calendar::to_day(year, month, day);
-    match t {
-        Numbered::Refused(n) => n,
-        Numbered::Found(n) => bytes_c::reply(number, bytes_c::DAY_BYTES, n),
-    }
+    let n = calendar::to_day(year, month, day)?;
+    bytes_c::reply(number, bytes_c::DAY_BYTES, n)
 }
 
 // Whether a page is kept today, by the day of its departure: one byte that becomes 1 if it is, else 0. Refused: 12, 4.
-pub fn tulvekas_kept(today: u64, departure: u64, kept: &mut [u8]) -> u64
-    ensures answer { result ≡ reply_answer (kept_reply (keeping today departure)) kept.old }
+pub fn tulvekas_kept(today: u64, departure: u64, kept: &mut [u8]) -> Result<(), Refusal>
+    ensures answer { answer_number result ≡ reply_answer (kept_reply (keeping today departure)) kept.old }
     ensures kept { kept.new ≡ reply_writes (kept_reply (keeping today departure)) kept.old }
 {
-    let v = retention::kept(today, departure);
-    match v {
-        Verdict::Refused(n) => n,
-        Verdict::Kept => bytes_c::reply(kept, 1, 1),
-        Verdict::NotKept => bytes_c::reply(kept, 1, 0),
-    }
+    let holds = retention::kept(today, departure)?;
+    bytes_c::reply(kept, 1, holds as u64)
 }
 
 // The last date on which a page is kept, by the day of its departure, in four bytes as tulvekas_date writes them. Refused: 12, 4.
-pub fn tulvekas_kept_until(departure: u64, date: &mut [u8]) -> u64
-    ensures answer { result ≡ reply_answer (date_reply (kept_until departure)) date.old }
+pub fn tulvekas_kept_until(departure: u64, date: &mut [u8]) -> Result<(), Refusal>
+    ensures answer { answer_number result ≡ reply_answer (date_reply (kept_until departure)) date.old }
     ensures date { date.new ≡ reply_writes (date_reply (kept_until departure)) date.old }
 {
-    let t = retention::kept_until(departure);
-    bytes_c::reply_date(t, date)
+    bytes_c::reply_date(retention::kept_until(departure), date)
 }

@@ -1,11 +1,12 @@
 -- `tulvekas::tulvekas_seal` meets its contract, by the tag's length and the answer of the call below.
 use Prim.Native.Nat.{ℕ}
-use mathlib.Core.Path.{◌≡◌, sym, ap, ◌∙◌}
+use mathlib.Core.Path.{ap, ◌∙◌}
 use mathlib.Core.List.{List, ◌++◌}
 use lib.ListN.{drop}
-use Rattle.page.specs.Calls.{seal_number, seal_out, seal_tag}
-use Rattle.bytes_c.proofs.Answering.{refused, unwritten, accepted}
-use Rattle.tulvekas.proofs.Answering.{four_later}
+use Rattle.std.proofs.lemmas.Result.{err_from_is_err_and}
+use Rattle.scope.proofs.Refused.{refused}
+use Rattle.page.specs.Calls.{seal_out, seal_tag}
+use Rattle.bytes_c.proofs.Answering.{refused as untouched, unwritten, accepted}
 use Rattle.tulvekas.proofs.PageAnswers.{seal_no_room, seal_room, seal_left}
 use Rattle.tulvekas.proofs.tulvekas_seal.Goals as goal
 
@@ -20,11 +21,11 @@ returns-then-tag-lt-TAG_BYTES c =
     let tag = a.tag.now in
     let f = c.short_tag.ensures out in
     let e = f ∙ seal_no_room key iv d t out tag c.if-tag-lt-TAG_BYTES.true in
-    let n : ¬ (c.short_tag.result ≡ 0) = λ z. four_later (seal_number key iv d t out) (sym f ∙ z) in
-    record { answer = e; out = refused e (seal_out key iv d t out) out n; tag = unwritten e 16 (seal_tag key iv d t out) tag n }
+    let n = refused c.short_tag.result in
+    record { answer = e; out = untouched e (seal_out key iv d t out) out n; tag = unwritten e 16 (seal_tag key iv d t out) tag n }
 
-pub returns-then-n-ne0 : goal.returns-then-n-ne0
-returns-then-n-ne0 c =
+pub returns-in_err-t : goal.returns-in_err-t
+returns-in_err-t c =
     let a = c.args in
     let key = a.key.now in
     let iv = a.iv.now in
@@ -32,8 +33,14 @@ returns-then-n-ne0 c =
     let t = a.text.now in
     let out = a.out.now in
     let tag = a.tag.now in
-    let e = c.seal-p.ensures.answer ∙ seal_room key iv d t out tag c.if-tag-lt-TAG_BYTES.false in
-    record { answer = e; out = c.seal-p.ensures.out ∙ seal_left key iv d t out tag c.if-tag-lt-TAG_BYTES.false; tag = unwritten e 16 (seal_tag key iv d t out) tag c.if-n-ne0.true }
+    let p = err_from_is_err_and c.from_residual.result c.from_residual.ensures.1 in
+    let h = refused c.in_err-t.field-0.0 in
+    let e = c.in_err-t.ensures.answer ∙ seal_room key iv d t out tag c.if-tag-lt-TAG_BYTES.false in
+    record {
+      answer = rw (p.1, p.2) e;
+      out = c.in_err-t.ensures.out ∙ seal_left key iv d t out tag c.if-tag-lt-TAG_BYTES.false;
+      tag = unwritten e 16 (seal_tag key iv d t out) tag h;
+    }
 
 pub returns : goal.returns
 returns c =
@@ -44,4 +51,10 @@ returns c =
     let t = a.text.now in
     let out = a.out.now in
     let tag = a.tag.now in
-    let e = sym c.if-n-ne0.false ∙ c.seal-p.ensures.answer ∙ seal_room key iv d t out tag c.if-tag-lt-TAG_BYTES.false in record { answer = e; out = c.seal-p.ensures.out ∙ seal_left key iv d t out tag c.if-tag-lt-TAG_BYTES.false; tag = c.put_block.ensures ∙ ap (λ (v : List ℕ). v ++ drop 16 tag) c.seal-p.ensures.tag ∙ accepted e (seal_tag key iv d t out ++ drop 16 tag) tag }
+    let f = c.in_ok-t.ensures in
+    let e = f.answer ∙ seal_room key iv d t out tag c.if-tag-lt-TAG_BYTES.false in
+    record {
+      answer = e;
+      out = f.out ∙ seal_left key iv d t out tag c.if-tag-lt-TAG_BYTES.false;
+      tag = c.put_block.ensures ∙ ap (λ (v : List ℕ). v ++ drop 16 tag) f.tag ∙ accepted e (seal_tag key iv d t out ++ drop 16 tag) tag;
+    }

@@ -1,31 +1,31 @@
--- `tulvekas::tulvekas_start` meets its contract, by the three lengths.
-use mathlib.Core.Path.{sym, ap, ◌∙◌}
+-- `tulvekas::tulvekas_start` meets its contract, by the answer of the start and the buffer's length.
+use mathlib.Core.Path.{refl, ap, ◌∙◌}
+use Rattle.std.proofs.lemmas.Result.{err_from_is_err_and}
+use Rattle.scope.proofs.Refused.{refused}
 use Rattle.start.specs.Start.{started}
 use Rattle.bytes_c.specs.Modes.{mode_named}
-use Rattle.bytes_c.proofs.Answering.{never, accepted}
+use Rattle.bytes_c.proofs.Answering.{never}
 use Rattle.tulvekas.proofs.Answering.{state_leaves_all, state_leaves_stored}
 use Rattle.tulvekas.proofs.CipherAnswers.{start_refused, start_short, start_right}
 use Rattle.tulvekas.proofs.tulvekas_start.Goals as goal
 
-pub returns-then-n-ne0 : goal.returns-then-n-ne0
-returns-then-n-ne0 c =
+pub returns-in_err-s : goal.returns-in_err-s
+returns-in_err-s c =
     let a = c.args in
-    let h = c.if-n-ne0.true in
-    let e = start_refused a.key.now a.iv.now a.state.now c.lengths-n.ensures h in
-    record { answer = e; state = state_leaves_all e (started a.key.now a.iv.now (mode_named a.sealed)) a.state.now h }
+    let p = err_from_is_err_and c.from_residual.result c.from_residual.ensures.1 in
+    let h = refused c.in_err-s.field-0.0 in
+    let e = start_refused a.key.now a.iv.now a.state.now c.in_err-s.ensures h in
+    record { answer = rw (p.1, p.2) e; state = state_leaves_all e (started a.key.now a.iv.now (mode_named a.sealed)) a.state.now h }
 
 pub returns-then-state-lt-STATE_BYTES : goal.returns-then-state-lt-STATE_BYTES
 returns-then-state-lt-STATE_BYTES c =
     let a = c.args in
-    let e = start_short a.key.now a.iv.now a.state.now c.lengths-n.ensures c.if-n-ne0.false c.if-state-lt-STATE_BYTES.true in
+    let e = start_short a.key.now a.iv.now a.state.now c.in_ok-s.ensures.0 refl c.if-state-lt-STATE_BYTES.true in
     record { answer = e; state = state_leaves_all e (started a.key.now a.iv.now (mode_named a.sealed)) a.state.now (never 3) }
 
 pub returns : goal.returns
 returns c =
     let a = c.args in
-    let key = a.key.now in
-    let iv = a.iv.now in
-    let z = c.if-n-ne0.false in
-    let e = start_right key iv a.state.now c.lengths-n.ensures z c.if-state-lt-STATE_BYTES.false in
-    let s = c.start-t.ensures.state ∙ sym (accepted (sym z ∙ c.lengths-n.ensures) _ _) ∙ ap (started key iv) c.mode_named.ensures in
-    record { answer = e; state = state_leaves_stored e _ (started key iv (mode_named a.sealed)) a.state.now _ s c.store_state.ensures }
+    let e = start_right a.key.now a.iv.now a.state.now c.in_ok-s.ensures.0 refl c.if-state-lt-STATE_BYTES.false in
+    let s = c.in_ok-s.ensures.1 ∙ ap (started a.key.now a.iv.now) c.mode_named.ensures in
+    record { answer = e; state = state_leaves_stored e _ (started a.key.now a.iv.now (mode_named a.sealed)) a.state.now _ s c.store_state.ensures }

@@ -13,8 +13,8 @@ use Rattle.tulvekas.proofs.SessionAnswers.{suspend_again, below_number, below_ou
 use Rattle.tulvekas.proofs.tulvekas_suspend.Goals as goal
 use Rattle.tulvekas.proofs.tulvekas_suspend.Goals.{Else-not-is_session}
 
-is-long : (c : Else-not-is_session) → length c.args.session.now ≡ 240
-is-long c = long c.args.session.now c.is_session.ensures (ap not c.if-not-is_session.false)
+is_long : (c : Else-not-is_session) → length c.args.session.now ≡ 240
+is_long c = long c.args.session.now c.is_session.ensures (ap not c.if-not-is_session.false)
 
 pub returns-then-not-is_session : goal.returns-then-not-is_session
 unfolding suspend_answer
@@ -32,7 +32,7 @@ returns c =
     let u = c.load_session.ensures in
     let b = a.block.now in
     let f : Session → Given = λ v. suspend_call v b in
-    record { answer = c.suspend-p.ensures.says.number ∙ below_number s (is-long (goal.at.returns c).Else-not-is_session) u f; block = c.suspend-p.ensures.out_after ∙ below_out s (is-long (goal.at.returns c).Else-not-is_session) u f b (suspend_again (session_in s) b) }
+    record { answer = c.suspend.ensures.says.number ∙ below_number s (is_long (goal.at.returns c).Else-not-is_session) u f; block = c.suspend.ensures.out_after ∙ below_out s (is_long (goal.at.returns c).Else-not-is_session) u f b (suspend_again (session_in s) b) }
 
 pub load_session-requires : goal.load_session-requires
-load_session-requires c = is-long (goal.at.load_session-requires c).Else-not-is_session
+load_session-requires c = is_long (goal.at.load_session-requires c).Else-not-is_session
