@@ -76,15 +76,12 @@ pub fn unclock8(s: Lfsr) -> Lfsr
     let sb = s.b;
     let mut a = raised(sa);
     let mut b = raised(sb);
-    let mut n: usize = 8;
-    while 0 < n {
-        let i = n - 1;
+    for i in (0..8).rev() {
         let p = sa[i + 8] ^ (a[i + 1] ^ over(0xcc87, a[i + 8]));
         let q = sb[i + 8] ^ (b[i + 3] ^ over(0xe4b1, b[i + 8]));
         let x = solve(0x3d1f, 0x5a06, q ^ times(0xc963, p));
         a[i] = x;
         b[i] = p ^ times(0x990f, x);
-        n = i;
     }
     Lfsr { a, b }
 }
