@@ -4,4 +4,4 @@ use Rattle.lfsr.proofs.Unwind.{Undone}
 use Rattle.lfsr.proofs.unclock8.Given as goal
 
 abbrev pub invariant-loop-i : goal.invariant-loop-i
-invariant-loop-i l = Undone snow_v l.sa l.sb l.i l.a l.b
+invariant-loop-i l = Undone snow_v l.s.a l.s.b l.i l.a l.b
