@@ -6,13 +6,16 @@ use Prim.Native.Nat.{ℕ, zero, suc, ◌+◌, ◌-◌, ◌*◌, ◌/◌, ◌%◌
 use native.Mathlib.Nat.{zero-add, suc-add}
 use native.Mathlib.Decide.{ℕ_discrete}
 use native.Mathlib.Omega.{arith}
-use lib.ListN.{length, take, drop, take-append-drop}
+use Rattle.std.proofs.Common.{drop-drop}
+use lib.ListN.{length, take, drop, length-drop, take-append-drop}
 use lib.Seq.{sets, length-sets, slice, slice_empty, length-slice, length-take-le, take-nil, take-take, take-length, drop-append-le}
-use Rattle.words.specs.Bytes.{zeros}
+use Rattle.words.specs.Bytes.{part, zeros}
+use Rattle.words.proofs.Parts.{part_long}
 use Rattle.ghash.specs.Hash.{eat, hash_from}
 use Rattle.ghash.proofs.Hashing.{hash_append, hash_none, hash_one}
 use Rattle.digest.specs.Sum.{Sum, fresh}
 use Rattle.digest.specs.Digest.{absorb}
+use Rattle.digest.proofs.Settling.{hash_short}
 use Rattle.digest.proofs.Pieces.{sum, absorb_append, absorb_fills, absorb_rest, absorb_over, sets_end}
 
 pub slice_split : (f m t : ℕ) (s : List ℕ) → f ≤ m → m ≤ t → t ≤ length s → slice f t s ≡ slice f m s ++ slice m t s
@@ -31,38 +34,22 @@ slice_all s = take-length s
 
 -- ---- block by block
 
--- z is the hash up to place i
-pub record Hashed (h y s : List ℕ) (from to : ℕ) (z : List ℕ) (i : ℕ) : Type 0 where
-  pub bound : i ≤ to
-  pub left : (to - i) % 16 ≡ 0
-  pub leads : hash_from h z (slice i to s) ≡ hash_from h y (slice from to s)
+-- a turn takes the block of number i off the front of what is left, which then leads where the whole leads
+pub hashed_more : (h y s z v : List ℕ) (i : ℕ) → i < length s / 16 → v ≡ eat h z (part (16 * i) 16 s)
+    → hash_from h z (drop (16 * i) s) ≡ hash_from h y s → hash_from h v (drop (16 * (i + 1)) s) ≡ hash_from h y s
+hashed_more h y s z v i k e q =
+    let r = drop (16 * i) s in
+    let l : length (take 16 r) ≡ 16 = part_long s (16 * i) 16 (omega arith) in
+    let f : 16 * i + 16 ≡ 16 * (i + 1) = omega arith in
+    ap (λ (u : List ℕ). hash_from h u (drop (16 * (i + 1)) s)) (e ∙ sym (hash_one h z (take 16 r) l))
+    ∙ ap (hash_from h (hash_from h z (take 16 r))) (ap (λ (j : ℕ). drop j s) (sym f) ∙ sym (drop-drop 16 (16 * i) s))
+    ∙ sym (hash_append h z (take 16 r) (drop 16 r) (omega arith))
+    ∙ ap (hash_from h z) (take-append-drop 16 r)
+    ∙ q
 
-pub hashed_none : (h y s : List ℕ) (from to : ℕ) → from ≤ to → (to - from) % 16 ≡ 0 → Hashed h y s from to y from
-hashed_none h y s from to o w = record { bound = o; left = w; leads = refl }
-
--- a place that is not the last has a block behind it
-pub hashed_block : {h y s : List ℕ} {from to : ℕ} {z : List ℕ} {i : ℕ} → Hashed h y s from to z i → i < to → i + 16 ≤ to
-hashed_block g k = omega (arith, g.left)
-
-pub hashed_more : {h y s : List ℕ} {from to : ℕ} {z : List ℕ} {i : ℕ} → Hashed h y s from to z i → i < to → to ≤ length s → (v : List ℕ)
-    → v ≡ eat h z (take 16 (drop i s)) → Hashed h y s from to v (i + 16)
-hashed_more {h} {y} {s} {from} {to} {z} {i} g k n v e =
-    let b = hashed_block g k in
-    let w = g.left in
-    let l : length (slice i (i + 16) s) ≡ 16 = length-slice i (i + 16) s (omega arith) ∙ omega arith in
-    record {
-      bound = b;
-      left = omega arith;
-      leads =
-          ap (λ (u : List ℕ). hash_from h u (slice (i + 16) to s))
-          (e ∙ ap (eat h z) (sym (slice_take i 16 s)) ∙ sym (hash_one h z (slice i (i + 16) s) l))
-          ∙ sym (hash_append h z (slice i (i + 16) s) (slice (i + 16) to s) (omega arith))
-          ∙ ap (hash_from h z) (sym (slice_split i (i + 16) to s (omega arith) b n)) ∙ g.leads;
-    }
-
-pub hashed_all : {h y s : List ℕ} {from to : ℕ} {z : List ℕ} {i : ℕ} → Hashed h y s from to z i → i ≡ to → z ≡ hash_from h y (slice from to s)
-hashed_all {h} {y} {s} {from} {to} {z} {i} g e =
-    sym (hash_none h z) ∙ ap (hash_from h z) (sym (slice_empty to s)) ∙ ap (λ (j : ℕ). hash_from h z (slice j to s)) (sym e) ∙ g.leads
+-- and less than a block is left at the end
+pub hashed_all : (h y s z : List ℕ) (i : ℕ) → length s / 16 ≤ i → hash_from h z (drop (16 * i) s) ≡ hash_from h y s → z ≡ hash_from h y s
+hashed_all h y s z i k q = sym (hash_short h z (drop (16 * i) s) (omega (arith, length-drop (16 * i) s))) ∙ q
 
 -- ---- head, whole blocks and tail of a piece of l bytes, the first of number n
 

@@ -11,5 +11,5 @@ use Rattle.digest.proofs.hold.Goals as goal
 pub returns : goal.returns
 returns c =
     let a = c.args in
-    ap (sum (bytes_of_element a.d.acc)) (c.keep-q.ensures ∙ ap (sets a.d.pending (a.n % 16)) (slice_all a.piece.now))
+    ap (sum (bytes_of_element a.d.acc)) c.keep-q.ensures
     ∙ sym (absorb_inside (bytes_of_element a.h) (sum_of a.d) a.n a.piece.now c.requires)
