@@ -8,7 +8,7 @@ use native.Mathlib.Decide.{ℕ_discrete}
 use native.Mathlib.Omega.{arith}
 use Rattle.std.proofs.Common.{drop-drop}
 use lib.ListN.{length, take, drop, length-drop, take-append-drop}
-use lib.Seq.{sets, length-sets, slice, slice_empty, length-slice, length-take-le, take-nil, take-take, take-length, drop-append-le}
+use lib.Seq.{sets, length-sets, slice, length-slice, length-take-le, take-nil, take-take, take-length, drop-append-le}
 use Rattle.words.specs.Bytes.{part, zeros}
 use Rattle.words.proofs.Parts.{part_long}
 use Rattle.ghash.specs.Hash.{eat, hash_from}

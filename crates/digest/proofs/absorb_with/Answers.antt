@@ -1,7 +1,5 @@
 -- `digest::absorb_with` meets its contract: a piece that fills a block is its head, whole blocks and tail.
 use mathlib.Core.Path.{◌≡◌, sym, ap, ap₂, ◌∙◌}
-use mathlib.Core.List.{List}
-use Prim.Native.Nat.{ℕ}
 use native.Mathlib.Omega.{arith}
 use lib.ListN.{length}
 use lib.Seq.{sets}

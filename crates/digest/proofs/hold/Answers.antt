@@ -1,11 +1,8 @@
 -- `digest::hold` meets its contract: bytes that stay in the block in use only set it.
 use mathlib.Core.Path.{sym, ap, ◌∙◌}
-use lib.Seq.{sets}
-use Prim.Native.Nat.{◌%◌}
 use Rattle.ghash.specs.Machine.{bytes_of_element}
 use Rattle.digest.specs.Machine.{sum_of}
 use Rattle.digest.proofs.Pieces.{sum, absorb_inside}
-use Rattle.digest.proofs.Slices.{slice_all}
 use Rattle.digest.proofs.hold.Goals as goal
 
 pub returns : goal.returns
