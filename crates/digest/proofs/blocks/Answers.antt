@@ -1,12 +1,9 @@
 -- `digest::blocks` meets its contract: what is left, from the hash so far on, leads where the whole leads.
-use Rattle.std.proofs.Common.{refl, ap, ◌∙◌, arith}
+use Rattle.std.proofs.Common.{ap, ◌∙◌, arith}
 use Rattle.ghash.specs.Hash.{eat}
 use Rattle.ghash.specs.Machine.{bytes_of_element}
 use Rattle.digest.proofs.Slices.{hashed_more, hashed_all}
 use Rattle.digest.proofs.blocks.Goals as goal
-
-pub loop-i-init : goal.loop-i-init
-loop-i-init c = refl
 
 pub loop-i-preserved : goal.loop-i-preserved
 loop-i-preserved c =

@@ -1,11 +1,8 @@
 -- `fields::all_zero` meets its contract: what has been seen, and what is left to see, make the answer.
-use Rattle.std.proofs.Common.{◌≡◌, ◌+◌, ◌-◌, refl, arith}
+use Rattle.std.proofs.Common.{◌≡◌, ◌+◌, ◌-◌, arith}
 use Rattle.words.specs.Bytes.{part}
 use Rattle.fields.proofs.Zeros.{all_zero_more, all_zero_all}
 use Rattle.fields.proofs.all_zero.Goals as goal
-
-pub loop-b-init : goal.loop-b-init
-loop-b-init c = refl
 
 pub loop-b-preserved : goal.loop-b-preserved
 loop-b-preserved c =

@@ -27,12 +27,3 @@ loop-i-preserved c =
       get_more a.s.now a.at a.k l.i l.n _ (omega arith) (omega arith) (omega arith) l.invariant.0 c.from.ensures,
       rw e (more_lt l.n _ _ l.invariant.1 b),
     )
-
-pub returns : goal.returns
-returns c =
-    let l = c.loop-i in
-    let e : l.i ≡ 0 = omega arith in
-    let a = c.args in
-    let f : a.at + 0 ≡ a.at = omega arith in
-    let g : a.k - 0 ≡ a.k = omega arith in
-    ((rw (e, f, g) at l.invariant.0), (rw (e, g) at l.invariant.1))

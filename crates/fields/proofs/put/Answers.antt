@@ -1,15 +1,7 @@
 -- `fields::put` meets its contract: at each turn, what is left to write would make the whole.
-use Rattle.std.proofs.Common.{◌≡◌, ◌+◌, ◌-◌, arith}
+use Rattle.std.proofs.Common.{arith}
 use Rattle.words.proofs.Writing.{put_more, put_all}
 use Rattle.fields.proofs.put.Goals as goal
-
-pub loop-i-init : goal.loop-i-init
-loop-i-init c =
-    let at = c.args.at in
-    let k = c.args.k in
-    let e : at + 0 ≡ at = omega arith in
-    let f : k - 0 ≡ k = omega arith in
-    rw (e, f)
 
 pub loop-i-preserved : goal.loop-i-preserved
 loop-i-preserved c =
