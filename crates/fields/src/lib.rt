@@ -94,8 +94,7 @@ fn check(s: &[u8]) -> u32
 {
     let mut sum: u32 = 0;
     for i in 0..127 {
-        let w = word(s, 4 * i);
-        sum = std::num::wrapping_add_u32(sum, w);
+        sum = sum.wrapping_add(word(s, 4 * i));
     }
     sum
 }

@@ -46,10 +46,10 @@ pub fn plus(x: Block, y: Block) -> Block
     ensures { bytes_of result ≡ bytes_of x ⊞ bytes_of y }
 {
     Block {
-        w0: std::num::wrapping_add_u32(x.w0, y.w0),
-        w1: std::num::wrapping_add_u32(x.w1, y.w1),
-        w2: std::num::wrapping_add_u32(x.w2, y.w2),
-        w3: std::num::wrapping_add_u32(x.w3, y.w3),
+        w0: x.w0.wrapping_add(y.w0),
+        w1: x.w1.wrapping_add(y.w1),
+        w2: x.w2.wrapping_add(y.w2),
+        w3: x.w3.wrapping_add(y.w3),
     }
 }
 
@@ -57,10 +57,10 @@ pub fn minus(x: Block, y: Block) -> Block
     ensures { bytes_of result ≡ bytes_of x ⊟ bytes_of y }
 {
     Block {
-        w0: std::num::wrapping_sub_u32(x.w0, y.w0),
-        w1: std::num::wrapping_sub_u32(x.w1, y.w1),
-        w2: std::num::wrapping_sub_u32(x.w2, y.w2),
-        w3: std::num::wrapping_sub_u32(x.w3, y.w3),
+        w0: x.w0.wrapping_sub(y.w0),
+        w1: x.w1.wrapping_sub(y.w1),
+        w2: x.w2.wrapping_sub(y.w2),
+        w3: x.w3.wrapping_sub(y.w3),
     }
 }
 
