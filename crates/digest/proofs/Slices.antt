@@ -6,16 +6,13 @@ use Prim.Native.Nat.{ℕ, zero, suc, ◌+◌, ◌-◌, ◌*◌, ◌/◌, ◌%◌
 use native.Mathlib.Nat.{zero-add, suc-add}
 use native.Mathlib.Decide.{ℕ_discrete}
 use native.Mathlib.Omega.{arith}
-use Rattle.std.proofs.Common.{drop-drop}
-use lib.ListN.{length, take, drop, length-drop, take-append-drop}
-use lib.Seq.{sets, length-sets, slice, length-slice, length-take-le, take-nil, take-take, take-length, drop-append-le}
+use lib.ListN.{length, take, drop, take-append-drop}
+use lib.Seq.{sets, length-sets, slice, length-slice, length-take-le, take-nil, take-take, take-length, take_all, drop-append-le}
 use Rattle.words.specs.Bytes.{part, zeros}
-use Rattle.words.proofs.Parts.{part_long}
 use Rattle.ghash.specs.Hash.{eat, hash_from}
 use Rattle.ghash.proofs.Hashing.{hash_append, hash_none, hash_one}
 use Rattle.digest.specs.Sum.{Sum, fresh}
 use Rattle.digest.specs.Digest.{absorb}
-use Rattle.digest.proofs.Settling.{hash_short}
 use Rattle.digest.proofs.Pieces.{sum, absorb_append, absorb_fills, absorb_rest, absorb_over, sets_end}
 
 pub slice_split : (f m t : ℕ) (s : List ℕ) → f ≤ m → m ≤ t → t ≤ length s → slice f t s ≡ slice f m s ++ slice m t s
@@ -34,22 +31,13 @@ slice_all s = take-length s
 
 -- ---- block by block
 
--- a turn takes the block of number i off the front of what is left, which then leads where the whole leads
-pub hashed_more : (h y s z v : List ℕ) (i : ℕ) → i < length s / 16 → v ≡ eat h z (part (16 * i) 16 s)
-    → hash_from h z (drop (16 * i) s) ≡ hash_from h y s → hash_from h v (drop (16 * (i + 1)) s) ≡ hash_from h y s
-hashed_more h y s z v i k e q =
-    let r = drop (16 * i) s in
-    let l : length (take 16 r) ≡ 16 = part_long s (16 * i) 16 (omega arith) in
-    let f : 16 * i + 16 ≡ 16 * (i + 1) = omega arith in
-    ap (λ (u : List ℕ). hash_from h u (drop (16 * (i + 1)) s)) (e ∙ sym (hash_one h z (take 16 r) l))
-    ∙ ap (hash_from h (hash_from h z (take 16 r))) (ap (λ (j : ℕ). drop j s) (sym f) ∙ sym (drop-drop 16 (16 * i) s))
-    ∙ sym (hash_append h z (take 16 r) (drop 16 r) (omega arith))
-    ∙ ap (hash_from h z) (take-append-drop 16 r)
+-- a block is taken off the front of what is left, which then leads where it led
+pub hashed_more : (h z x t : List ℕ) {l v w : List ℕ} → l ≡ x ++ t → length x ≡ 16 → v ≡ eat h z (part 0 16 x) → hash_from h z l ≡ w → hash_from h v t ≡ w
+hashed_more h z x t p n e q =
+    ap (λ (u : List ℕ). hash_from h u t) (e ∙ ap (eat h z) (take_all 16 x (omega arith)) ∙ sym (hash_one h z x n))
+    ∙ sym (hash_append h z x t (omega arith))
+    ∙ ap (hash_from h z) (sym p)
     ∙ q
-
--- and less than a block is left at the end
-pub hashed_all : (h y s z : List ℕ) (i : ℕ) → length s / 16 ≤ i → hash_from h z (drop (16 * i) s) ≡ hash_from h y s → z ≡ hash_from h y s
-hashed_all h y s z i k q = sym (hash_short h z (drop (16 * i) s) (omega (arith, length-drop (16 * i) s))) ∙ q
 
 -- ---- head, whole blocks and tail of a piece of l bytes, the first of number n
 

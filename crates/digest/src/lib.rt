@@ -45,8 +45,8 @@ fn blocks(h: Element, y: Element, bytes: &[u8], table: &[u64; 1024]) -> Element
     ensures { bytes_of_element result ≡ hash_from (bytes_of_element h) (bytes_of_element y) bytes.now }
 {
     let mut z = y;
-    for i in 0..bytes.len() / 16 {
-        let x = ghash::from_block(words::load(bytes, 16 * i));
+    for block in bytes.chunks_exact(16) {
+        let x = ghash::from_block(words::load(block, 0));
         z = ghash::absorb_element(z, x, h, table);
     }
     z
