@@ -1,5 +1,5 @@
--- For the code, which goes along a piece by its places: a part of a piece is the part before a place and the part behind it, a loop's turn takes
--- one byte or one block off the front of what is left, and what is left leads where the whole leads.
+-- For the code, which goes along a piece by its places: a part of a piece is the part before a place and the part behind it, and a loop's turn
+-- takes one block off the front of what is left, which leads where the whole leads.
 use mathlib.Core.Path.{◌≡◌, refl, sym, ap, ap₂, ◌∙◌}
 use mathlib.Core.List.{List, [], ◌∷◌, ◌++◌}
 use Prim.Native.Nat.{ℕ, zero, suc, ◌+◌, ◌-◌, ◌*◌, ◌/◌, ◌%◌, ◌≤◌, ◌<◌}
