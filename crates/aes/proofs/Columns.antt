@@ -4,7 +4,9 @@ use mathlib.Core.Path.{◌≡◌, sym, ap, ap₂, ◌∙◌}
 use mathlib.Core.List.{[], ◌∷◌, map}
 use Prim.Native.Nat.{ℕ, ◌+◌, ◌*◌, ◌/◌, ◌%◌, ◌^◌, ◌<◌}
 use native.Mathlib.Omega.{arith}
-use lib.Bits.{bit_and, and_le_r, and_high}
+use Rattle.std.specs.Int.{w32, rotate_right}
+use Rattle.std.proofs.lemmas.Nat.{or_comm, or_shifted}
+use lib.Bits.{bit_and, bit_or, and_le_r, and_high}
 use lib.Dec.{lit<}
 use Rattle.words.specs.Xor.{◌⊕◌, xors}
 use Rattle.words.specs.Bytes.{little, number}
@@ -67,12 +69,18 @@ module _ (w : ℕ) (h : w < 2 ^ 32) where
       ∙ xors_map moved reduced (little 4 w)
       ∙ map_same (λ b. moved b ⊕ reduced b) xtime doubled (little 4 w) (little_row 4 w).below
 
-  pub turn_down : little 4 (w / 0x100 + w % 0x100 * 0x1000000) ≡ turned (little 4 w)
+  -- `rotate_right` by 8
+  pub turn_down : little 4 (rotate_right w32 w 8) ≡ turned (little 4 w)
   unfolding little
   turn_down =
-      let e : w / 0x100 + w % 0x100 * 0x1000000
+      let small : w / 2 ^ 8 < 2 ^ 24 = omega arith in
+      let top : (w * 2 ^ 24) % 2 ^ 32 ≡ w % 2 ^ 8 * 2 ^ 24 = omega arith in
+      let e : rotate_right w32 w 8 ≡ w % 2 ^ 8 * 2 ^ 24 + w / 2 ^ 8 =
+      or_comm (w / 2 ^ 8) ((w * 2 ^ 24) % 2 ^ 32) ∙ ap (λ (t : ℕ). bit_or t (w / 2 ^ 8)) top ∙ or_shifted (w % 2 ^ 8) 24 (w / 2 ^ 8) small in
+      let f : w % 2 ^ 8 * 2 ^ 24 + w / 2 ^ 8
       ≡ w / 256 % 256 + w / 256 / 256 % 256 * 0x100 + w / 256 / 256 / 256 % 256 * 0x10000 + w % 256 * 0x1000000 = omega arith in
-      ap (little 4) e ∙ joined (w / 256 % 256) (w / 256 / 256 % 256) (w / 256 / 256 / 256 % 256) (w % 256) (omega arith) (omega arith) (omega arith) (omega arith)
+      ap (little 4) (e ∙ f)
+      ∙ joined (w / 256 % 256) (w / 256 / 256 % 256) (w / 256 / 256 / 256 % 256) (w % 256) (omega arith) (omega arith) (omega arith) (omega arith)
 
 -- ---- mixing, in the code's steps
 

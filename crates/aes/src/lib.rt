@@ -4,7 +4,7 @@
 
 mod table;
 
-ghost use Rattle.std.specs.Prelude.{◌≡◌, map, ◌<◌, ◌%◌, get_or};
+ghost use Rattle.std.specs.Prelude.{◌≡◌, map, ◌%◌, get_or};
 ghost use Rattle.words.specs.Bytes.{little};
 ghost use Rattle.words.specs.Machine.{bytes_of};
 ghost use Rattle.aes.specs.Field.{xtime, sub};
@@ -38,20 +38,22 @@ pub fn inverse_sbox() -> [u8; 256]
 }
 
 // What a table holds at the low byte of a word.
-fn entry(t: &[u8; 256], x: u32) -> u32
-    ensures { (result ≡ get_or t.now (x % 256) 0) × (result < 256) }
+fn entry(t: &[u8; 256], x: u32) -> u8
+    ensures { result ≡ get_or t.now (x % 256) 0 }
 {
-    words::word_of(t[(x % 256) as usize])
+    t[(x % 256) as usize]
 }
 
 // A column through a table: its byte r is the entry at byte r of the r-th word.
 fn gather(t: &[u8; 256], w: u32, x: u32, y: u32, z: u32) -> u32
     ensures { little 4 result ≡ gathered (diagonal (little 4 w) (little 4 x) (little 4 y) (little 4 z)) t.now }
 {
-    entry(t, w)
-        + entry(t, x / 0x100) * 0x100
-        + entry(t, y / 0x10000) * 0x10000
-        + entry(t, z / 0x1000000) * 0x1000000
+    u32::from_le_bytes([
+        entry(t, w),
+        entry(t, x / 0x100),
+        entry(t, y / 0x10000),
+        entry(t, z / 0x1000000),
+    ])
 }
 
 // Each of the four bytes times x.
@@ -65,7 +67,7 @@ fn times_x4(w: u32) -> u32
 fn turn(w: u32) -> u32
     ensures { little 4 result ≡ turned (little 4 w) }
 {
-    w / 0x100 + w % 0x100 * 0x1000000
+    w.rotate_right(8)
 }
 
 // MixColumns of one column: 2a + 3b + c + d is 2(a + b) + b + (c + d), and c + d is a + b two places on.

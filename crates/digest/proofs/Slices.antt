@@ -1,5 +1,5 @@
--- For the code, which goes along a piece by its places: a part of a piece is the part before a place and the part behind it, a loop's turn takes
--- one byte or one block off the front of what is left, and what is left leads where the whole leads.
+-- For the code, which goes along a piece by its places: a part of a piece is the part before a place and the part behind it, and a loop's turn
+-- takes one block off the front of what is left, which leads where the whole leads.
 use mathlib.Core.Path.{◌≡◌, refl, sym, ap, ap₂, ◌∙◌}
 use mathlib.Core.List.{List, [], ◌∷◌, ◌++◌}
 use Prim.Native.Nat.{ℕ, zero, suc, ◌+◌, ◌-◌, ◌*◌, ◌/◌, ◌%◌, ◌≤◌, ◌<◌}
@@ -7,8 +7,8 @@ use native.Mathlib.Nat.{zero-add, suc-add}
 use native.Mathlib.Decide.{ℕ_discrete}
 use native.Mathlib.Omega.{arith}
 use lib.ListN.{length, take, drop, take-append-drop}
-use lib.Seq.{sets, length-sets, slice, slice_empty, length-slice, length-take-le, take-nil, take-take, take-length, drop-append-le}
-use Rattle.words.specs.Bytes.{zeros}
+use lib.Seq.{sets, length-sets, slice, length-slice, length-take-le, take-nil, take-take, take-length, take_all, drop-append-le}
+use Rattle.words.specs.Bytes.{part, zeros}
 use Rattle.ghash.specs.Hash.{eat, hash_from}
 use Rattle.ghash.proofs.Hashing.{hash_append, hash_none, hash_one}
 use Rattle.digest.specs.Sum.{Sum, fresh}
@@ -31,38 +31,13 @@ slice_all s = take-length s
 
 -- ---- block by block
 
--- z is the hash up to place i
-pub record Hashed (h y s : List ℕ) (from to : ℕ) (z : List ℕ) (i : ℕ) : Type 0 where
-  pub bound : i ≤ to
-  pub left : (to - i) % 16 ≡ 0
-  pub leads : hash_from h z (slice i to s) ≡ hash_from h y (slice from to s)
-
-pub hashed_none : (h y s : List ℕ) (from to : ℕ) → from ≤ to → (to - from) % 16 ≡ 0 → Hashed h y s from to y from
-hashed_none h y s from to o w = record { bound = o; left = w; leads = refl }
-
--- a place that is not the last has a block behind it
-pub hashed_block : {h y s : List ℕ} {from to : ℕ} {z : List ℕ} {i : ℕ} → Hashed h y s from to z i → i < to → i + 16 ≤ to
-hashed_block g k = omega (arith, g.left)
-
-pub hashed_more : {h y s : List ℕ} {from to : ℕ} {z : List ℕ} {i : ℕ} → Hashed h y s from to z i → i < to → to ≤ length s → (v : List ℕ)
-    → v ≡ eat h z (take 16 (drop i s)) → Hashed h y s from to v (i + 16)
-hashed_more {h} {y} {s} {from} {to} {z} {i} g k n v e =
-    let b = hashed_block g k in
-    let w = g.left in
-    let l : length (slice i (i + 16) s) ≡ 16 = length-slice i (i + 16) s (omega arith) ∙ omega arith in
-    record {
-      bound = b;
-      left = omega arith;
-      leads =
-          ap (λ (u : List ℕ). hash_from h u (slice (i + 16) to s))
-          (e ∙ ap (eat h z) (sym (slice_take i 16 s)) ∙ sym (hash_one h z (slice i (i + 16) s) l))
-          ∙ sym (hash_append h z (slice i (i + 16) s) (slice (i + 16) to s) (omega arith))
-          ∙ ap (hash_from h z) (sym (slice_split i (i + 16) to s (omega arith) b n)) ∙ g.leads;
-    }
-
-pub hashed_all : {h y s : List ℕ} {from to : ℕ} {z : List ℕ} {i : ℕ} → Hashed h y s from to z i → i ≡ to → z ≡ hash_from h y (slice from to s)
-hashed_all {h} {y} {s} {from} {to} {z} {i} g e =
-    sym (hash_none h z) ∙ ap (hash_from h z) (sym (slice_empty to s)) ∙ ap (λ (j : ℕ). hash_from h z (slice j to s)) (sym e) ∙ g.leads
+-- a block is taken off the front of what is left, which then leads where it led
+pub hashed_more : (h z x t : List ℕ) {l v w : List ℕ} → l ≡ x ++ t → length x ≡ 16 → v ≡ eat h z (part 0 16 x) → hash_from h z l ≡ w → hash_from h v t ≡ w
+hashed_more h z x t p n e q =
+    ap (λ (u : List ℕ). hash_from h u t) (e ∙ ap (eat h z) (take_all 16 x (omega arith)) ∙ sym (hash_one h z x n))
+    ∙ sym (hash_append h z x t (omega arith))
+    ∙ ap (hash_from h z) (sym p)
+    ∙ q
 
 -- ---- head, whole blocks and tail of a piece of l bytes, the first of number n
 

@@ -29,40 +29,25 @@ pub fn fresh(y: Element) -> Held
     }
 }
 
-// The bytes of the piece from `from` up to `to`, put into p from `at` on.
-fn keep(p: [u8; 16], at: usize, piece: &[u8], from: usize, to: usize) -> [u8; 16]
-    requires { (from ≤ to) × (to ≤ length piece.now) × (at + (to - from) ≤ 16) }
-    ensures { result ≡ sets p at (slice from to piece.now) }
+// Bytes put into p from `at` on.
+fn keep(p: [u8; 16], at: usize, bytes: &[u8]) -> [u8; 16]
+    requires { at + length bytes.now ≤ 16 }
+    ensures { result ≡ sets p at bytes.now }
 {
     let mut q = p;
-    let mut k = at;
-    let mut i = from;
-    while i < to {
-        q[k] = piece[i];
-        k += 1;
-        i += 1;
-    }
+    q[at..at + bytes.len()].copy_from_slice(bytes);
     q
 }
 
-// The whole blocks of the piece from `from` up to `to`, from y on.
-fn blocks(
-    h: Element,
-    y: Element,
-    piece: &[u8],
-    from: usize,
-    to: usize,
-    table: &[u64; 1024],
-) -> Element
-    requires { (from ≤ to) × (to ≤ length piece.now) × ((to - from) % 16 ≡ 0) × Table (bytes_of_element h) table.now }
-    ensures { bytes_of_element result ≡ hash_from (bytes_of_element h) (bytes_of_element y) (slice from to piece.now) }
+// The whole blocks of the bytes, from y on.
+fn blocks(h: Element, y: Element, bytes: &[u8], table: &[u64; 1024]) -> Element
+    requires { Table (bytes_of_element h) table.now }
+    ensures { bytes_of_element result ≡ hash_from (bytes_of_element h) (bytes_of_element y) bytes.now }
 {
     let mut z = y;
-    let mut i = from;
-    while i < to {
-        let x = ghash::from_block(words::load(piece, i));
+    for block in bytes.chunks_exact(16) {
+        let x = ghash::from_block(words::load(block, 0));
         z = ghash::absorb_element(z, x, h, table);
-        i += 16;
     }
     z
 }
@@ -73,13 +58,11 @@ fn head(h: Element, d: Held, at: usize, piece: &[u8], table: &[u64; 1024]) -> El
     ensures { bytes_of_element result
         ≡ hash_from (bytes_of_element h) (bytes_of_element d.acc) (take at d.pending ++ slice 0 ((16 - at) % 16) piece.now) }
 {
-    let y = d.acc;
     if at == 0 {
-        return y;
+        return d.acc;
     }
-    let p = d.pending;
-    let q = keep(p, at, piece, 0, 16 - at);
-    ghash::absorb(y, words::load(&q, 0), h, table)
+    let q = keep(d.pending, at, &piece[..16 - at]);
+    ghash::absorb(d.acc, words::load(&q, 0), h, table)
 }
 
 // Fewer bytes than fill the block in use: they are held.
@@ -87,10 +70,11 @@ fn hold(h: Element, d: Held, n: u64, piece: &[u8]) -> Held
     requires { n % 16 + length piece.now < 16 }
     ensures { sum_of result ≡ absorb (bytes_of_element h) (sum_of d) n piece.now }
 {
-    let y = d.acc;
-    let p = d.pending;
-    let q = keep(p, (n % 16) as usize, piece, 0, piece.len());
-    Held { acc: y, pending: q }
+    let q = keep(d.pending, (n % 16) as usize, piece);
+    Held {
+        acc: d.acc,
+        pending: q,
+    }
 }
 
 // As `absorb`, with the table of h lent.
@@ -105,9 +89,8 @@ pub fn absorb_with(h: Element, d: Held, n: u64, piece: &[u8], table: &[u64; 1024
     }
     let from = (16 - at) % 16;
     let to = from + (len - from) / 16 * 16;
-    let y = blocks(h, head(h, d, at, piece, table), piece, from, to, table);
-    let zeros = [0u8; 16];
-    let q = keep(zeros, 0, piece, to, len);
+    let y = blocks(h, head(h, d, at, piece, table), &piece[from..to], table);
+    let q = keep([0; 16], 0, &piece[to..]);
     Held { acc: y, pending: q }
 }
 
@@ -129,12 +112,10 @@ pub fn settle_with(h: Element, d: Held, n: u64, table: &[u64; 1024]) -> Element
     requires { Table (bytes_of_element h) table.now }
     ensures { bytes_of_element result ≡ settled (bytes_of_element h) (sum_of d) n }
 {
-    let y = d.acc;
     if n % 16 == 0 {
-        return y;
+        return d.acc;
     }
-    let p = d.pending;
-    ghash::absorb(y, words::load(&p, 0), h, table)
+    ghash::absorb(d.acc, words::load(&d.pending, 0), h, table)
 }
 
 // The hash once n bytes are in: what is held is padded with zeros and hashed.
@@ -146,6 +127,5 @@ pub fn settle(h: Element, d: Held, n: u64) -> Element
         ghash::fill(&mut table, h);
         return settle_with(h, d, n, &table);
     }
-    let y = d.acc;
-    y
+    d.acc
 }

@@ -1,21 +1,19 @@
 -- Runs of zeros: the loop that looks for them, and that a all-zero list is one.
-use Rattle.std.proofs.Common.{◌≡◌, ℕ, zero, suc, ◌+◌, ◌-◌, ◌<◌, ◌≤◌, Bool, true, ◌&&◌, eqb, List, [], ◌∷◌, length, get_or, drop, replicate, sym, refl, ap, ◌∙◌, ap₂, arith, get_or-drop, eqb-true}
+use Rattle.std.proofs.Common.{◌≡◌, ℕ, zero, suc, ◌+◌, ◌-◌, ◌<◌, ◌≤◌, Bool, true, ◌&&◌, eqb, List, [], ◌∷◌, length, get_or, drop, replicate, sym, refl, ap, ◌∙◌, ap₂, add-one, arith, drop_of_length-le, drop-cons, get_or-drop, eqb-true}
 use mathlib.Core.Bool.{and_assoc, and-true}
-use Rattle.words.specs.Bytes.{part}
 use Rattle.words.proofs.Tests.{and_left, and_right}
-use Rattle.words.proofs.Parts.{part_next}
 use Rattle.fields.specs.Fields.{all_zero}
 
 -- what has been seen, and what is left to see, make the answer
-pub all_zero_more : (s : List ℕ) (at k i : ℕ) (all t : Bool) → i < k → at + k ≤ length s → (all && all_zero (part (at + i) (k - i) s)) ≡ t
-    → ((all && eqb (get_or s (at + i) 0) 0) && all_zero (part (at + (i + 1)) (k - (i + 1)) s)) ≡ t
+pub all_zero_more : (s : List ℕ) (i : ℕ) (all t : Bool) → i < length s → (all && all_zero (drop i s)) ≡ t
+    → ((all && eqb (get_or s i 0) 0) && all_zero (drop (i + 1) s)) ≡ t
 unfolding all_zero
-all_zero_more s at k i all t h n q =
-    and_assoc all (eqb (get_or s (at + i) 0) 0) (all_zero (part (at + (i + 1)) (k - (i + 1)) s)) ∙ rw (part_next s at k i h n) at q
+all_zero_more s i all t h q =
+    rw (add-one i) (and_assoc all (eqb (get_or s i 0) 0) (all_zero (drop (suc i) s)) ∙ rw (drop-cons s i 0 h) at q)
 
-pub all_zero_all : (s : List ℕ) (j k i : ℕ) (all t : Bool) → k ≤ i → (all && all_zero (part j (k - i) s)) ≡ t → all ≡ t
+pub all_zero_all : (s : List ℕ) (i : ℕ) (all t : Bool) → length s ≤ i → (all && all_zero (drop i s)) ≡ t → all ≡ t
 unfolding all_zero
-all_zero_all s j k i all t h q = let e : k - i ≡ 0 = omega arith in sym (and-true all) ∙ rw e at q
+all_zero_all s i all t h q = sym (and-true all) ∙ rw (drop_of_length-le s h) at q
 
 -- ---- what is all-zero
 

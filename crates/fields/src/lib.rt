@@ -13,37 +13,23 @@ pub fn copy(s: &[u8], k: usize, out: &mut [u8])
     requires { (k ≤ length s.now) × (k ≤ length out.old) }
     ensures { out.new ≡ take k s.now ++ drop k out.old }
 {
-    let mut i: usize = 0;
-    while i < k {
-        out[i] = s[i];
-        i += 1;
-    }
+    out[..k].copy_from_slice(&s[..k]);
 }
 
-// k bytes from one place to another at least 16 before it, in blocks of 16. Every other byte stays.
+// k bytes from one place to another at least 16 before it. Every other byte stays.
 pub fn move_down(s: &mut [u8], at: usize, from: usize, k: usize)
     requires { (at + 16 ≤ from) × (from + k ≤ length s.old) × (k % 16 ≡ 0) }
     ensures { s.new ≡ sets s.old at (part from k s.old) }
 {
-    let mut i: usize = 0;
-    while i < k {
-        let block = words::load(s, from + i);
-        words::store(s, at + i, block);
-        i += 16;
-    }
+    s.copy_within(from..from + k, at);
 }
 
-// Zeros for k bytes, in blocks of 16. Every other byte stays.
+// Zeros for k bytes. Every other byte stays.
 pub fn clear(s: &mut [u8], at: usize, k: usize)
     requires { (at + k ≤ length s.old) × (k % 16 ≡ 0) }
     ensures { s.new ≡ sets s.old at (replicate k 0) }
 {
-    let none = words::zero();
-    let mut i: usize = 0;
-    while i < k {
-        words::store(s, at + i, none);
-        i += 16;
-    }
+    s[at..at + k].fill(0);
 }
 
 // Whether t stands at a place of s. Each of its bytes is looked at.
@@ -52,10 +38,8 @@ pub fn same(s: &[u8], at: usize, t: &[u8]) -> bool
     ensures { result ≡ Bytes.same (part at (length t.now) s.now) t.now }
 {
     let mut all = true;
-    let mut i: usize = 0;
-    while i < t.len() {
+    for i in 0..t.len() {
         all = all & (s[at + i] == t[i]);
-        i += 1;
     }
     all
 }
@@ -66,11 +50,9 @@ pub fn put(out: &mut [u8], at: usize, k: usize, n: u64)
     ensures { out.new ≡ sets out.old at (little k n) }
 {
     let mut m = n;
-    let mut i: usize = 0;
-    while i < k {
+    for i in 0..k {
         out[at + i] = (m % 256) as u8;
         m = m / 256;
-        i += 1;
     }
 }
 
@@ -80,10 +62,8 @@ pub fn get(s: &[u8], at: usize, k: usize) -> u64
     ensures { (result ≡ number (part at k s.now)) × (result < 256 ^ k) }
 {
     let mut n: u64 = 0;
-    let mut i = k;
-    while 0 < i {
-        i -= 1;
-        n = n * 256 + words::word_of(s[at + i]) as u64;
+    for i in (0..k).rev() {
+        n = n * 256 + u64::from(s[at + i]);
     }
     n
 }
@@ -101,10 +81,8 @@ pub fn cells(s: &[u8], at: usize) -> [u16; 16]
     ensures { result ≡ numbers 2 16 (part at 32 s.now) }
 {
     let mut r = [0u16; 16];
-    let mut i: usize = 0;
-    while i < 16 {
+    for i in 0..16 {
         r[i] = get(s, at + 2 * i, 2) as u16;
-        i += 1;
     }
     r
 }
@@ -115,11 +93,8 @@ fn check(s: &[u8]) -> u32
     ensures { result ≡ Fields.check s.now }
 {
     let mut sum: u32 = 0;
-    let mut i: usize = 0;
-    while i < 127 {
-        let w = word(s, 4 * i);
-        sum = std::num::wrapping_add_u32(sum, w);
-        i += 1;
+    for i in 0..127 {
+        sum = sum.wrapping_add(word(s, 4 * i));
     }
     sum
 }
@@ -149,10 +124,8 @@ pub fn all_zero(s: &[u8], at: usize, k: usize) -> bool
     ensures { result ≡ Fields.all_zero (part at k s.now) }
 {
     let mut all = true;
-    let mut i: usize = 0;
-    while i < k {
-        all = all & (s[at + i] == 0);
-        i += 1;
+    for b in &s[at..at + k] {
+        all = all & (*b == 0);
     }
     all
 }

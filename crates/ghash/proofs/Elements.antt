@@ -11,11 +11,12 @@ use lib.Dec.{lit<}
 use lib.ListN.{take, drop}
 use lib.Pow.{split, shr_lt}
 use lib.Seq.{take_at, drop_at}
+use Rattle.std.specs.Int.{w64, from_be_bytes, swap_bytes}
 use Rattle.words.specs.Xor.{◌⊕◌, xors}
 use Rattle.words.specs.Bytes.{little, number, littles, IsBlock, zeros}
 use Rattle.words.proofs.XorLaws.{⊕-zero-r}
 use Rattle.words.proofs.Rows.{row_append, xors_append}
-use Rattle.words.proofs.Bytes.{little_row, little_long, little_xor, little_pair, number_little}
+use Rattle.words.proofs.Bytes.{little_row, little_long, little_xor, little_pair, little_of_half, number_little}
 use Rattle.ghash.specs.Field.{R, times_x}
 use Rattle.ghash.specs.Hash.{big, bigs, lengths}
 use Rattle.ghash.specs.Machine.{bytes_of_element}
@@ -79,10 +80,14 @@ four_words a b c d = refl
 
 -- ---- the other order
 
-pub flipped : (x : ℕ) → x < 2 ^ 64 → big (little 4 (x % 2 ^ 32)) * 2 ^ 32 + big (little 4 (x / 2 ^ 32)) ≡ big (little 8 x)
-flipped x h =
-    sym (ap big (apart x h) ∙ big_append (little 4 (x % 2 ^ 32)) (little 4 (x / 2 ^ 32))
-    ∙ ap (λ (l : ℕ). big (little 4 (x % 2 ^ 32)) * 256 ^ l + big (little 4 (x / 2 ^ 32))) (little_long 4 (x / 2 ^ 32)))
+eight : (a b c d e f g h : ℕ) → from_be_bytes w64 (a ∷ b ∷ c ∷ d ∷ e ∷ f ∷ g ∷ h ∷ []) ≡ big (a ∷ b ∷ c ∷ d ∷ e ∷ f ∷ g ∷ h ∷ [])
+unfolding big
+eight a b c d e f g h = omega arith
+
+-- what `swap_bytes` gives
+pub swapped : (x : ℕ) → swap_bytes w64 x ≡ big (little 8 x)
+unfolding little
+swapped x = ap (from_be_bytes w64) (little_of_half x) ∙ eight _ _ _ _ _ _ _ _
 
 -- a byte above k others
 little_snoc : (k b m : ℕ) → b < 256 → m < 256 ^ k → little (suc k) (b * 256 ^ k + m) ≡ little k m ++ (b ∷ [])
@@ -162,10 +167,3 @@ times_x_halves hi lo hl =
     ∙ sym (⊕-block 64 (hi / 2) e w 0 fits (lit< tt))
     ∙ ap₂ ◌⊕◌ (half hi lo)
     (add-zero (e * 2 ^ 64) ∙ mul_assoc (lo % 2) 0xe100_0000_0000_0000 (2 ^ 64) ∙ ap (λ (b : ℕ). b * R) (parity hi lo))
-
--- ---- a word's bytes in the other order
-
-pub swapped : (x : ℕ) → x < 2 ^ 32
-    → x % 256 * 0x1000000 + x / 256 % 256 * 0x10000 + x / 256 / 256 % 256 * 0x100 + x / 256 / 256 / 256 ≡ big (little 4 x)
-unfolding big little
-swapped x h = omega arith

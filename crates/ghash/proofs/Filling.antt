@@ -47,7 +47,6 @@ shift_four x v h =
 -- ---- the loop
 
 pub record Filled (h v p : ℕ) (t : List ℕ) : Type 0 where
-  pub few : p ≤ 32
   pub long : length (entries t) ≡ 512
   pub moved : (x : ℕ) → x < 16 ^ (32 - p) → product x h ≡ product (x * 16 ^ p) v
   pub done : (q k : ℕ) → q < p → k < 16 → get_or (entries t) (q * 16 + k) 0 ≡ product (k * 16 ^ (31 - q)) h
@@ -55,13 +54,12 @@ pub record Filled (h v p : ℕ) (t : List ℕ) : Type 0 where
 pub filled_none : (h : ℕ) (t : List ℕ) → length t ≡ 1024 → Filled h h 0 t
 filled_none h t e =
     record {
-      few = omega arith;
       long = entries_long 512 t e;
       moved = λ x l. ap (λ (y : ℕ). product y h) (sym (mul-one x));
       done = λ q k a l. absurd (omega arith);
     }
 
-module _ (h v v' p : ℕ) (t t' : List ℕ) (few-next : p < 32) (f : Filled h v p t) (ev : v' ≡ times_x (times_x (times_x (times_x v))))
+module _ (h v v' p : ℕ) (t t' : List ℕ) (few_next : p < 32) (f : Filled h v p t) (ev : v' ≡ times_x (times_x (times_x (times_x v))))
     (et : entries t' ≡ sets (entries t) (p * 16) (multiples v)) where
   -- 16 ^ p and what is to its left
   whole : 16 ^ (31 - p) * 16 ^ p ≡ 2 ^ 124
@@ -97,7 +95,6 @@ module _ (h v v' p : ℕ) (t t' : List ℕ) (few-next : p < 32) (f : Filled h v 
   pub filled_more : Filled h v' (p + 1) t'
   filled_more =
       record {
-        few = omega arith;
         long = ap length et ∙ length-sets (entries t) (p * 16) (multiples v) ∙ f.long;
         moved = moved_next;
         done = done_next;

@@ -65,30 +65,13 @@ pub fn to_block(e: Element) -> Block
     }
 }
 
-// The four bytes of a word in the other order.
-fn swap(x: u32) -> u32
-    ensures { result ≡ big (little 4 x) }
-{
-    x % 256 * 0x1000000
-        + x / 256 % 256 * 0x10000
-        + x / 256 / 256 % 256 * 0x100
-        + x / 256 / 256 / 256
-}
-
-// The eight bytes of a half.
-fn flip(x: u64) -> u64
-    ensures { result ≡ big (little 8 x) }
-{
-    (swap((x % 0x100000000) as u32) as u64) * 0x100000000 + (swap((x / 0x100000000) as u32) as u64)
-}
-
 // Both lengths, of data and of text, in bits, high byte first.
 pub fn lengths(ad: u64, text: u64) -> Element
     ensures { bytes_of_element result ≡ Hash.lengths ad text }
 {
     Element {
-        lo: flip(ad << 3),
-        hi: flip(text << 3),
+        lo: (ad << 3).swap_bytes(),
+        hi: (text << 3).swap_bytes(),
     }
 }
 
@@ -96,8 +79,8 @@ fn to_number(e: Element) -> Number
     ensures { number_of result ≡ big (bytes_of_element e) }
 {
     Number {
-        hi: flip(e.lo),
-        lo: flip(e.hi),
+        hi: e.lo.swap_bytes(),
+        lo: e.hi.swap_bytes(),
     }
 }
 
@@ -105,8 +88,8 @@ fn from_number(v: Number) -> Element
     ensures { big (bytes_of_element result) ≡ number_of v }
 {
     Element {
-        lo: flip(v.hi),
-        hi: flip(v.lo),
+        lo: v.hi.swap_bytes(),
+        hi: v.lo.swap_bytes(),
     }
 }
 
@@ -169,10 +152,8 @@ pub fn fill(table: &mut [u64; 1024], h: Element)
     ensures { Table (bytes_of_element h) table.new }
 {
     let mut v = to_number(h);
-    let mut p: usize = 0;
-    while p < 32 {
+    for p in 0..32 {
         v = place(table, p, v);
-        p += 1;
     }
 }
 

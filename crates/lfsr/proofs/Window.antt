@@ -8,9 +8,8 @@ use native.Mathlib.Omega.{arith}
 use native.Mathlib.Numerals.{add-one}
 use native.Mathlib.Nat.{add-zero, add_comm, eq-or-lt_of_le, le_of_suc-le-suc}
 use native.Mathlib.Decide.{dec_lt}
-use lib.ListN.{length, get_or, take, drop, set, length-drop, length-append, length-set, get_or-append}
-use lib.Seq.{get_or-drop, drop-drop, drop-append-le, take_at, ext_get_or, get_or-set_same, get_or-set_other, get_or-append-add, get_or_at}
-use borrow.Author.Count.{below_more}
+use lib.ListN.{length, get_or, take, drop, length-drop, length-append, get_or-append}
+use lib.Seq.{get_or-drop, drop-drop, drop-append-le, take_at, ext_get_or, get_or-append-add, get_or_at}
 use Rattle.words.specs.Xor.{◌⊕◌}
 use Rattle.lfsr.specs.Clock.{Lfsr, Taps, cell, shift, clock, clocks}
 use Rattle.lfsr.proofs.Shift.{Near, Reads}
@@ -102,23 +101,6 @@ pub record Filled (f g : ℕ → ℕ) (n : ℕ) (l : List ℕ) : Type 0 where
   pub low : (k : ℕ) → k < n → get_or l k 0 ≡ f k
   pub high : (k : ℕ) → k < n → get_or l (k + 8) 0 ≡ g k
 
-filled_none : (f g : ℕ → ℕ) (l : List ℕ) → length l ≡ 16 → Filled f g 0 l
-filled_none f g l e = record { long = e; low = λ k h. absurd (omega arith); high = λ k h. absurd (omega arith) }
-
-filled_more : (f g : ℕ → ℕ) (n : ℕ) (l : List ℕ) (x : ℕ) → n < 8 → Filled f g n l → x ≡ g n → Filled f g (n + 1) (set (set l n (f n)) (n + 8) x)
-filled_more f g n l x h p ex =
-    let m = set l n (f n) in
-    let e : length m ≡ 16 = length-set l n (f n) ∙ p.long in
-    record {
-      long = length-set m (n + 8) x ∙ e;
-      low = below_more (λ (k : ℕ). get_or (set m (n + 8) x) k 0 ≡ f k) n
-          (λ k q. get_or-set_other m (n + 8) k x 0 (omega arith) ∙ get_or-set_other l n k (f n) 0 (omega arith) ∙ p.low k q)
-          (get_or-set_other m (n + 8) n x 0 (omega arith) ∙ get_or-set_same l n (f n) 0 (omega (arith, p.long)));
-      high = below_more (λ (k : ℕ). get_or (set m (n + 8) x) (k + 8) 0 ≡ g k) n
-          (λ k q. get_or-set_other m (n + 8) (k + 8) x 0 (omega arith) ∙ get_or-set_other l n (k + 8) (f n) 0 (omega arith) ∙ p.high k q)
-          (get_or-set_same m (n + 8) x 0 (omega (arith, e)) ∙ ex);
-    }
-
 filled_all : (a l : List ℕ) (g : ℕ → ℕ) → length a ≡ 16 → Filled (λ k. cell a (k + 8)) g 8 l → l ≡ drop 8 a ++ listed 8 g
 filled_all a l g ea p =
     ext_get_or 0 l (drop 8 a ++ listed 8 g) (omega (arith, p.long, length-append (drop 8 a) (listed 8 g), length-drop 8 a, length_listed 8 g))
@@ -138,18 +120,8 @@ filled_all a l g ea p =
 -- ---- both registers, as a loop of eight turns fills them
 
 pub record Turn (t : Taps) (sa sb : List ℕ) (i : ℕ) (a b : List ℕ) : Type 0 where
-  pub at_most : i ≤ 8
   pub in_a : Filled (λ k. cell sa (k + 8)) (made_a t sa sb) i a
   pub in_b : Filled (λ k. cell sb (k + 8)) (made_b t sa sb) i b
-
-module _ (t : Taps) (sa sb : List ℕ) where
-  pub turn_none : (a b : List ℕ) → length a ≡ 16 → length b ≡ 16 → Turn t sa sb 0 a b
-  turn_none a b ea eb = record { at_most = omega arith; in_a = filled_none _ _ a ea; in_b = filled_none _ _ b eb }
-
-  pub turn_more : (i : ℕ) (a b : List ℕ) (x y : ℕ) → i < 8 → Turn t sa sb i a b → x ≡ made_a t sa sb i → y ≡ made_b t sa sb i
-      → Turn t sa sb (i + 1) (set (set a i (cell sa (i + 8))) (i + 8) x) (set (set b i (cell sb (i + 8))) (i + 8) y)
-  turn_more i a b x y h p ex ey =
-      record { at_most = omega arith; in_a = filled_more _ _ i a x h p.in_a ex; in_b = filled_more _ _ i b y h p.in_b ey }
 
 module _ {t : Taps} {solved : ℕ → ℕ} (w : Lawful t solved) (sa sb : List ℕ) (ea : length sa ≡ 16) (eb : length sb ≡ 16) (a b : List ℕ) where
   pub filled_clocks : Filled (λ k. cell sa (k + 8)) (made_a t sa sb) 8 a → Filled (λ k. cell sb (k + 8)) (made_b t sa sb) 8 b
@@ -157,5 +129,5 @@ module _ {t : Taps} {solved : ℕ → ℕ} (w : Lawful t solved) (sa sb : List �
   filled_clocks p q =
       ap₂ mk (filled_all sa a (made_a t sa sb) ea p) (filled_all sb b (made_b t sa sb) eb q) ∙ sym (window w sa sb ea eb 8 (omega arith))
 
-  pub turn_all : (i : ℕ) → 8 ≤ i → Turn t sa sb i a b → mk a b ≡ clocks t 8 (mk sa sb)
-  turn_all i h p = let e : i ≡ 8 = omega (arith, p.at_most) in filled_clocks (rw e at p.in_a) (rw e at p.in_b)
+  pub turn_all : Turn t sa sb 8 a b → mk a b ≡ clocks t 8 (mk sa sb)
+  turn_all p = filled_clocks p.in_a p.in_b

@@ -63,28 +63,23 @@ fn solve(k: u16, l: u16, y: u16) -> u16
 fn raised(c: [u16; 16]) -> [u16; 16]
     ensures { result ≡ replicate 8 0 ++ take 8 c }
 {
-    [
-        0, 0, 0, 0, 0, 0, 0, 0, c[0], c[1], c[2], c[3], c[4], c[5], c[6], c[7],
-    ]
+    let mut r = [0; 16];
+    r[8..].copy_from_slice(&c[..8]);
+    r
 }
 
 // Eight clocks back, a cell of each register at a time, from the highest.
 pub fn unclock8(s: Lfsr) -> Lfsr
     ensures { lfsr_of result ≡ unclocks snow_v solved_v 8 (lfsr_of s) }
 {
-    let sa = s.a;
-    let sb = s.b;
-    let mut a = raised(sa);
-    let mut b = raised(sb);
-    let mut n: usize = 8;
-    while 0 < n {
-        let i = n - 1;
-        let p = sa[i + 8] ^ (a[i + 1] ^ over(0xcc87, a[i + 8]));
-        let q = sb[i + 8] ^ (b[i + 3] ^ over(0xe4b1, b[i + 8]));
+    let mut a = raised(s.a);
+    let mut b = raised(s.b);
+    for i in (0..8).rev() {
+        let p = s.a[i + 8] ^ (a[i + 1] ^ over(0xcc87, a[i + 8]));
+        let q = s.b[i + 8] ^ (b[i + 3] ^ over(0xe4b1, b[i + 8]));
         let x = solve(0x3d1f, 0x5a06, q ^ times(0xc963, p));
         a[i] = x;
         b[i] = p ^ times(0x990f, x);
-        n = i;
     }
     Lfsr { a, b }
 }

@@ -98,18 +98,14 @@ same_words x y p q = both_ways (e0 && e1 && e2 && e3) (same (bytes_of x) (bytes_
 
 -- ---- read from a slice
 
-pub word_at : (s : List ℕ) (at : ℕ) → at + 4 ≤ length s → (a b c d : ℕ)
-    → a ≡ get_or s at 0 → b ≡ get_or s (at + 1) 0 → c ≡ get_or s (at + 2) 0 → d ≡ get_or s (at + 3) 0
-    → a + b * 0x100 + c * 0x10000 + d * 0x1000000 ≡ number (take 4 (drop at s))
+pub word_at : (s : List ℕ) (at : ℕ) → at + 4 ≤ length s
+    → get_or s at 0 + get_or s (at + 1) 0 * 0x100 + get_or s (at + 2) 0 * 0x10000 + get_or s (at + 3) 0 * 0x1000000 ≡ number (take 4 (drop at s))
 unfolding number
-word_at s at h a b c d p q r t =
+word_at s at h =
     let e1 : at + 1 ≡ suc at = omega arith in
     let e2 : at + 2 ≡ suc (suc at) = omega arith in
     let e3 : at + 3 ≡ suc (suc (suc at)) = omega arith in
-    let q' : b ≡ get_or s (suc at) 0 = rw e1 at q in
-    let r' : c ≡ get_or s (suc (suc at)) 0 = rw e2 at r in
-    let t' : d ≡ get_or s (suc (suc (suc at))) 0 = rw e3 at t in
-    rw (window 4 at s h) (omega arith)
+    rw (window 4 at s h, e1, e2, e3) (omega arith)
 
 pub block_at : (s : List ℕ) (at : ℕ) → at + 16 ≤ length s → Below 256 s
     → littles 4 (number (take 4 (drop at s)) ∷ number (take 4 (drop (at + 4) s)) ∷ number (take 4 (drop (at + 8) s)) ∷ number (take 4 (drop (at + 12) s)) ∷ [])

@@ -1,8 +1,9 @@
 -- A number of k bytes and its bytes determine each other, and so do n numbers and their n * k bytes, at every k: cells are k = 2, the words
 -- of ⊞32 k = 4. Xor goes through, since it keeps to its digits.
 use Rattle.std.proofs.Common.{◌≡◌, ℕ, zero, suc, ◌+◌, ◌-◌, ◌*◌, ◌/◌, ◌%◌, ◌^◌, ◌<◌, ◌≤◌, List, [], ◌∷◌, ◌++◌, length, take, drop, sym, refl, ap, ◌∙◌, subst, ap₂, append_assoc, mod-lt, mul_assoc, mul_comm, arith, lit<, length-append, length-drop, take-append-drop, take_at, drop_at}
-use native.Mathlib.Nat.{pow-succ'}
+use native.Mathlib.Nat.{pow-succ', div-div-eq-div-mul}
 use lib.Seq.{take-append-le, drop-append-le}
+use Rattle.std.specs.Int.{w32, w64, to_le_bytes}
 use Rattle.words.specs.Xor.{◌⊕◌, xors}
 use Rattle.words.specs.Bytes.{little, number, littles, numbers, Row}
 use Rattle.words.proofs.XorLaws.{⊕-mod, ⊕-shr}
@@ -160,3 +161,13 @@ little_join k x y hx hy =
 -- two words
 pub little_pair : (a b : ℕ) → a < 2 ^ 32 → b < 2 ^ 32 → little 8 (a + b * 0x100000000) ≡ little 4 a ++ little 4 b
 little_pair a b ha hb = ap (λ (n : ℕ). little 8 (a + n)) (mul_comm b 0x100000000) ∙ little_join 4 a b ha hb
+
+-- ---- what `to_le_bytes` gives
+
+pub little_of_word : (x : ℕ) → to_le_bytes w32 x ≡ little 4 x
+unfolding little
+little_of_word x = simp div-div-eq-div-mul
+
+pub little_of_half : (x : ℕ) → to_le_bytes w64 x ≡ little 8 x
+unfolding little
+little_of_half x = simp div-div-eq-div-mul

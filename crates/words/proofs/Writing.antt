@@ -1,7 +1,9 @@
 -- Runs of stores one behind the other, and the loops that write: what is left to write, written behind what stands there, makes the whole.
 -- Copying, hex digits from bytes and bytes from hex digits are one loop at three functions.
-use Rattle.std.proofs.Common.{◌≡◌, ℕ, suc, ◌+◌, ◌-◌, ◌/◌, ◌%◌, ◌<◌, ◌≤◌, List, [], ◌∷◌, ◌++◌, length, get_or, take, drop, set, sym, refl, ap, ◌∙◌, append_assoc, append-nil, add-one, arith, length-append, drop_of_length-le, length-take-le, drop-drop, take_at, drop_at}
-use lib.Seq.{sets, length-sets, sets-eq, slice, slice-cons, slice_empty, drop-length, take-set-le}
+use Rattle.std.proofs.Common.{◌≡◌, ℕ, suc, ◌+◌, ◌-◌, ◌/◌, ◌%◌, ◌<◌, ◌≤◌, List, [], ◌∷◌, ◌++◌, length, get_or, take, drop, set, sym, refl, ap, ◌∙◌, append_assoc, append-nil, add-one, arith, length-append, drop_of_length-le, length-take-le, drop-drop, take_at, take_all, drop_at}
+use Rattle.std.proofs.lemmas.Slice.{put_mid-paste}
+use borrow.Rule.Slice.PartMut.{put_mid}
+use lib.Seq.{paste, sets, length-sets, sets-eq, slice, slice-cons, slice_empty, drop-length, take-set-le}
 use Rattle.words.specs.Bytes.{little, part}
 use Rattle.words.proofs.Rows.{sets_append}
 use Rattle.words.proofs.Parts.{part_front}
@@ -21,6 +23,16 @@ put_front out v n e h = sets-eq v out 0 (omega arith) ∙ ap (λ (k : ℕ). v ++
 pub put_whole : (l v : List ℕ) → length v ≡ length l → sets l 0 v ≡ v
 put_whole l v e =
     put_front l v (length l) e (omega arith) ∙ ap (λ (r : List ℕ). v ++ r) (drop-length l) ∙ append-nil v
+
+-- a part written over as a whole: as `copy_within` leaves it, and as a write to `s[a..e]` does
+pub put_pasted : (l s : List ℕ) (at k : ℕ) → k ≤ length s → at + k ≤ length l → paste l at s k ≡ sets l at (take k s)
+put_pasted l s at k h n =
+    let e : length (take k s) ≡ k = length-take-le k s h in
+    ap (λ (m : ℕ). take at l ++ take k s ++ drop (at + m) l) (sym e) ∙ sym (sets-eq (take k s) l at (omega arith))
+
+pub put_part : (l : List ℕ) (at k : ℕ) {v w : List ℕ} → w ≡ v → k ≡ length v → at + k ≤ length l → put_mid at k l w ≡ sets l at v
+put_part l at k {v} {w} e n h =
+    put_mid-paste at k l w v k e refl n ∙ put_pasted l v at k (omega arith) h ∙ ap (sets l at) (take_all k v (omega arith))
 
 -- what was written at the front of a list
 pub front : (out vs : List ℕ) → length vs ≤ length out → take (length vs) (sets out 0 vs) ≡ vs

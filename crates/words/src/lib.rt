@@ -46,10 +46,10 @@ pub fn plus(x: Block, y: Block) -> Block
     ensures { bytes_of result ≡ bytes_of x ⊞ bytes_of y }
 {
     Block {
-        w0: std::num::wrapping_add_u32(x.w0, y.w0),
-        w1: std::num::wrapping_add_u32(x.w1, y.w1),
-        w2: std::num::wrapping_add_u32(x.w2, y.w2),
-        w3: std::num::wrapping_add_u32(x.w3, y.w3),
+        w0: x.w0.wrapping_add(y.w0),
+        w1: x.w1.wrapping_add(y.w1),
+        w2: x.w2.wrapping_add(y.w2),
+        w3: x.w3.wrapping_add(y.w3),
     }
 }
 
@@ -57,14 +57,14 @@ pub fn minus(x: Block, y: Block) -> Block
     ensures { bytes_of result ≡ bytes_of x ⊟ bytes_of y }
 {
     Block {
-        w0: std::num::wrapping_sub_u32(x.w0, y.w0),
-        w1: std::num::wrapping_sub_u32(x.w1, y.w1),
-        w2: std::num::wrapping_sub_u32(x.w2, y.w2),
-        w3: std::num::wrapping_sub_u32(x.w3, y.w3),
+        w0: x.w0.wrapping_sub(y.w0),
+        w1: x.w1.wrapping_sub(y.w1),
+        w2: x.w2.wrapping_sub(y.w2),
+        w3: x.w3.wrapping_sub(y.w3),
     }
 }
 
-// Whether two blocks are the same. Each of their words is looked at.
+// Whether two blocks are the same. Each of their words is looked at: a derived `==` could stop at the first that differs.
 pub fn same(x: Block, y: Block) -> bool
     ensures { result ≡ Bytes.same (bytes_of x) (bytes_of y) }
 {
@@ -75,7 +75,7 @@ pub fn same(x: Block, y: Block) -> bool
 pub fn word_of(x: u8) -> u32
     ensures { (result ≡ x) × (result < 256) }
 {
-    x as u32
+    u32::from(x)
 }
 
 // Four bytes of a slice as a word.
@@ -83,10 +83,7 @@ fn load_word(p: &[u8], at: usize) -> u32
     requires { at + 4 ≤ length p.now }
     ensures { result ≡ number (part at 4 p.now) }
 {
-    word_of(p[at])
-        + word_of(p[at + 1]) * 0x100
-        + word_of(p[at + 2]) * 0x10000
-        + word_of(p[at + 3]) * 0x1000000
+    u32::from_le_bytes([p[at], p[at + 1], p[at + 2], p[at + 3]])
 }
 
 // Two words as a number of 64 bits, the low one first.
@@ -113,10 +110,7 @@ fn store_word(out: &mut [u8], at: usize, x: u32)
     requires { at + 4 ≤ length out.old }
     ensures { out.new ≡ sets out.old at (little 4 x) }
 {
-    out[at] = (x % 256) as u8;
-    out[at + 1] = (x / 256 % 256) as u8;
-    out[at + 2] = (x / 256 / 256 % 256) as u8;
-    out[at + 3] = (x / 256 / 256 / 256 % 256) as u8;
+    out[at..at + 4].copy_from_slice(&x.to_le_bytes());
 }
 
 // And written there. Every other byte stays.
@@ -134,26 +128,7 @@ pub fn store(out: &mut [u8], at: usize, x: Block)
 pub fn to_bytes(x: Block) -> [u8; 16]
     ensures { result ≡ bytes_of x }
 {
-    let a = x.w0;
-    let b = x.w1;
-    let c = x.w2;
-    let d = x.w3;
-    [
-        (a % 256) as u8,
-        (a / 256 % 256) as u8,
-        (a / 256 / 256 % 256) as u8,
-        (a / 256 / 256 / 256 % 256) as u8,
-        (b % 256) as u8,
-        (b / 256 % 256) as u8,
-        (b / 256 / 256 % 256) as u8,
-        (b / 256 / 256 / 256 % 256) as u8,
-        (c % 256) as u8,
-        (c / 256 % 256) as u8,
-        (c / 256 / 256 % 256) as u8,
-        (c / 256 / 256 / 256 % 256) as u8,
-        (d % 256) as u8,
-        (d / 256 % 256) as u8,
-        (d / 256 / 256 % 256) as u8,
-        (d / 256 / 256 / 256 % 256) as u8,
-    ]
+    let mut bytes = [0; 16];
+    store(&mut bytes, 0, x);
+    bytes
 }

@@ -13,10 +13,7 @@ pub returns : goal.returns
 unfolding little gathered
 returns c =
     let a = c.args in
-    let e0 = c.entry.ensures in
-    let e1 = c.entry-2.ensures in
-    let e2 = c.entry-3.ensures in
-    let e3 = c.entry-4.ensures in
     let at : ℕ → ℕ = λ i. get_or a.t.now i 0 in
-    joined _ _ _ _ e0.1 e1.1 e2.1 e3.1
-    ∙ four e0.0 e1.0 (e2.0 ∙ ap at (omega arith)) (e3.0 ∙ ap at (omega arith))
+    ap (little 4) c.from_le_bytes.ensures
+    ∙ joined _ _ _ _ c.entry.type_inv c.entry-2.type_inv c.entry-3.type_inv c.entry-4.type_inv
+    ∙ four c.entry.ensures c.entry-2.ensures (c.entry-3.ensures ∙ ap at (omega arith)) (c.entry-4.ensures ∙ ap at (omega arith))

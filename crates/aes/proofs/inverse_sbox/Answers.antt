@@ -1,17 +1,7 @@
 -- `aes::inverse_sbox` meets its contract: at each turn, every byte passed stands at the place that its entry names.
 use native.Mathlib.Omega.{arith}
-use borrow.Author.Rules.{rules}
-use Rattle.aes.proofs.Boxes.{sub_lt}
-use Rattle.aes.proofs.Inverting.{inverts_none, inverts_more, inverts_all}
+use Rattle.aes.proofs.Inverting.{inverts_more, inverts_all}
 use Rattle.aes.proofs.inverse_sbox.Goals as goal
-
-pub loop-i-init : goal.loop-i-init
-loop-i-init c = inverts_none _ (search rules)
-
-pub bounds-r-s : goal.bounds-r-s
-bounds-r-s c =
-    let i = c.loop-i.i in
-    omega (arith, c.sbox-s.ensures.rule i (omega arith), sub_lt i)
 
 pub loop-i-preserved : goal.loop-i-preserved
 loop-i-preserved c =

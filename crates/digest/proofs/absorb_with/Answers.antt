@@ -1,10 +1,10 @@
 -- `digest::absorb_with` meets its contract: a piece that fills a block is its head, whole blocks and tail.
 use mathlib.Core.Path.{◌≡◌, sym, ap, ap₂, ◌∙◌}
-use mathlib.Core.List.{List}
-use Prim.Native.Nat.{ℕ}
 use native.Mathlib.Omega.{arith}
 use lib.ListN.{length}
-use lib.Seq.{slice}
+use lib.Seq.{sets}
+use Rattle.std.proofs.lemmas.Slice.{between_is}
+use Rattle.words.specs.Bytes.{zeros}
 use Rattle.ghash.specs.Hash.{hash_from}
 use Rattle.ghash.specs.Machine.{bytes_of_element}
 use Rattle.digest.specs.Machine.{sum_of}
@@ -20,9 +20,11 @@ long c = search rules
 pub returns : goal.returns
 returns c =
     let a = c.args in
-    let l = length a.piece.now in
+    let p = a.piece.now in
+    let f = head_of a.n in
+    let t = tail_of a.n (length p) in
     ap₂ sum
     (c.blocks-y.ensures
-    ∙ ap (λ (y : List ℕ). hash_from (bytes_of_element a.h) y (slice (head_of a.n) (tail_of a.n l) a.piece.now)) c.head.ensures)
-    c.keep-q.ensures
+    ∙ ap₂ (hash_from (bytes_of_element a.h)) c.head.ensures (between_is p f t))
+    (c.keep-q.ensures ∙ ap (sets zeros 0) (between_is p t (length p)))
     ∙ sym (absorb_parts (bytes_of_element a.h) (sum_of a.d) a.n a.piece.now (long (goal.at.returns c).Start) (omega arith))

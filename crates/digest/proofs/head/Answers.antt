@@ -18,14 +18,14 @@ returns-then-at-eq0 c = let a = c.args in rw c.if-at-eq0.true (sym (hash_none (b
 long : (c : Start) → length c.args.d.pending ≡ 16
 long c = search rules
 
-long-q : (c : After-keep-q) → length c.keep-q.result ≡ 16
-long-q c = search rules
+long_q : (c : After-keep-q) → length c.keep-q.result ≡ 16
+long_q c = search rules
 
 pub returns : goal.returns
 returns c =
     let a = c.args in
     let n : 16 - a.at ≡ (16 - a.at) % 16 = omega arith in
-    let e = long-q (goal.at.returns c).After-keep-q in
+    let e = long_q (goal.at.returns c).After-keep-q in
     c.absorb.ensures
     ∙ ap (eat (bytes_of_element a.h) (bytes_of_element a.d.acc))
     (c.load.ensures ∙ take_all 16 c.keep-q.result (omega arith) ∙ c.keep-q.ensures

@@ -17,9 +17,6 @@ long c = search rules
 pub returns-then-n-eq0 : goal.returns-then-n-eq0
 returns-then-n-eq0 c = let a = c.args in sym (settled_whole (bytes_of_element a.h) (sum_of a.d) a.n (omega arith))
 
-pub load-requires : goal.load-requires
-load-requires c = let e = long (goal.at.load-requires c).Start in omega arith
-
 pub returns : goal.returns
 returns c =
     let a = c.args in

@@ -1,5 +1,5 @@
 -- `fields::get` meets its contract: the number of the bytes passed, from the last down.
-use Rattle.std.proofs.Common.{◌≡◌, ◌+◌, ◌-◌, le-add_right, lt_of_le_of_lt, arith, lit<}
+use Rattle.std.proofs.Common.{◌≡◌, ◌+◌, ◌-◌, ◌<◌, le-add_right, lt_of_le_of_lt, arith, lit<}
 use Rattle.fields.proofs.Reading.{get_none, get_more, more_lt, few_lt}
 use Rattle.fields.proofs.get.Goals as goal
 
@@ -7,31 +7,23 @@ pub loop-i-init : goal.loop-i-init
 loop-i-init c =
     let a = c.args in
     let e : a.k - a.k ≡ 0 = omega arith in
-    (omega arith, get_none a.s.now a.at a.k, rw e (omega arith))
+    (get_none a.s.now a.at a.k, rw e (omega arith))
 
 pub overflow_mul-n : goal.overflow_mul-n
-overflow_mul-n c = record { fits = lt_of_le_of_lt (le-add_right _ 0) (few_lt c.loop-i.n 0 _ c.loop-i.invariant.2 (lit< tt) (omega arith)) }
+overflow_mul-n c = record { fits = lt_of_le_of_lt (le-add_right _ 0) (few_lt c.loop-i.n 0 _ c.loop-i.invariant.1 (lit< tt) (omega arith)) }
 
 pub overflow_add-n : goal.overflow_add-n
 overflow_add-n c =
     let l = c.loop-i in
-    record { fits = few_lt l.n _ _ l.invariant.2 c.word_of.ensures.1 (omega arith) }
+    let b : c.from.result < 256 = rw c.from.ensures ((c.type_inv.s _).fits) in
+    record { fits = few_lt l.n _ _ l.invariant.1 b (omega arith) }
 
 pub loop-i-preserved : goal.loop-i-preserved
 loop-i-preserved c =
     let l = c.loop-i in
     let a = c.args in
+    let b : c.from.result < 256 = rw c.from.ensures ((c.type_inv.s _).fits) in
     let e : a.k - (l.i - 1) ≡ a.k - l.i + 1 = omega arith in (
-      omega arith,
-      get_more a.s.now a.at a.k l.i l.n _ (omega arith) (omega arith) (omega arith) l.invariant.1 c.word_of.ensures.0,
-      rw e (more_lt l.n _ _ l.invariant.2 c.word_of.ensures.1),
+      get_more a.s.now a.at a.k l.i l.n _ (omega arith) (omega arith) (omega arith) l.invariant.0 c.from.ensures,
+      rw e (more_lt l.n _ _ l.invariant.1 b),
     )
-
-pub returns : goal.returns
-returns c =
-    let l = c.loop-i in
-    let e : l.i ≡ 0 = omega arith in
-    let a = c.args in
-    let f : a.at + 0 ≡ a.at = omega arith in
-    let g : a.k - 0 ≡ a.k = omega arith in
-    ((rw (e, f, g) at l.invariant.1), (rw (e, g) at l.invariant.2))

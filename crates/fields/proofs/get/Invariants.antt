@@ -1,10 +1,7 @@
 -- `fields::get` meets its contract: the number of the bytes passed, from the last down.
-use Rattle.std.proofs.Common.{◌≡◌, ◌+◌, ◌-◌, ◌^◌, ◌<◌, ◌≤◌}
+use Rattle.std.proofs.Common.{◌≡◌, ◌+◌, ◌-◌, ◌^◌, ◌<◌}
 use Rattle.words.specs.Bytes.{number, part}
 use Rattle.fields.proofs.get.Given as goal
 
 abbrev pub invariant-loop-i : goal.invariant-loop-i
-invariant-loop-i l = (l.i ≤ l.k) × (l.n ≡ number (part (l.at + l.i) (l.k - l.i) l.s)) × (l.n < 256 ^ (l.k - l.i))
-
-abbrev pub decreases-loop-i : goal.decreases-loop-i
-decreases-loop-i l = l.i
+invariant-loop-i l = (l.n ≡ number (part (l.at + l.i) (l.k - l.i) l.s)) × (l.n < 256 ^ (l.k - l.i))

@@ -1,30 +1,16 @@
 -- `fields::put` meets its contract: at each turn, what is left to write would make the whole.
-use Rattle.std.proofs.Common.{◌≡◌, ◌+◌, ◌-◌, refl, arith, length-set}
+use Rattle.std.proofs.Common.{arith}
 use Rattle.words.proofs.Writing.{put_more, put_all}
 use Rattle.fields.proofs.put.Goals as goal
-
-pub loop-i-init : goal.loop-i-init
-loop-i-init c =
-    let at = c.args.at in
-    let k = c.args.k in
-    let e : at + 0 ≡ at = omega arith in
-    let f : k - 0 ≡ k = omega arith in
-    (omega arith, refl, rw (e, f))
-
-pub bounds-out-at : goal.bounds-out-at
-bounds-out-at c = omega arith
 
 pub loop-i-preserved : goal.loop-i-preserved
 loop-i-preserved c =
     let l = c.loop-i in
     let a = c.args in
-    (omega arith, simp length-set l.invariant.1, put_more a.k l.i a.at l.m l.out _ (omega arith) l.invariant.2)
-
-pub shape_of-out : goal.shape_of-out
-shape_of-out c = c.loop-i.invariant.1
+    put_more a.k l.i a.at l.m l.out _ (omega arith) l.invariant
 
 pub returns : goal.returns
 returns c =
     let l = c.loop-i in
     let a = c.args in
-    put_all a.k l.i a.at l.m l.out _ (omega arith) l.invariant.2
+    put_all a.k l.i a.at l.m l.out _ (omega arith) l.invariant

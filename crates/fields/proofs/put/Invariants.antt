@@ -1,11 +1,8 @@
 -- `fields::put` meets its contract: at each turn, what is left to write would make the whole.
-use Rattle.std.proofs.Common.{◌≡◌, ◌+◌, ◌-◌, ◌≤◌, length}
+use Rattle.std.proofs.Common.{◌≡◌, ◌+◌, ◌-◌}
 use lib.Seq.{sets}
 use Rattle.words.specs.Bytes.{little}
 use Rattle.fields.proofs.put.Given as goal
 
 abbrev pub invariant-loop-i : goal.invariant-loop-i
-invariant-loop-i l = (l.i ≤ l.k) × (length l.out ≡ length l.initial.out) × (sets l.out (l.at + l.i) (little (l.k - l.i) l.m) ≡ sets l.initial.out l.at (little l.k l.n))
-
-abbrev pub decreases-loop-i : goal.decreases-loop-i
-decreases-loop-i l = l.k - l.i
+invariant-loop-i l = sets l.out (l.at + l.i) (little (l.k - l.i) l.m) ≡ sets l.initial.out l.at (little l.k l.n)

@@ -17,5 +17,5 @@ loop-p-preserved c =
 pub returns : goal.returns
 returns c =
     let l = c.loop-p in
-    let e : l.p ≡ 32 = omega (arith, l.invariant.few) in
+    let e : l.p ≡ 32 = omega arith in
     filled_all (bytes_of_element c.args.h) (number_of l.v) l.table (rw (c.to_number-v.ensures, e) at l.invariant)

@@ -1,7 +1,6 @@
 -- `ghash::place` meets its contract: v, v x, v x² and v x³ are the four leftmost bits' multiples, and the others are sums of these.
 use mathlib.Core.Path.{ap, ◌∙◌}
 use Prim.Native.Nat.{◌*◌, ◌<◌}
-use native.Mathlib.Omega.{arith}
 use Rattle.ghash.specs.Field.{times_x}
 use Rattle.ghash.specs.Hash.{big}
 use Rattle.ghash.specs.Inner.{number_of, entries}
@@ -12,15 +11,6 @@ use Rattle.ghash.proofs.place.Goals.{After-xor-e3}
 
 few : (c : After-xor-e3) → c.args.p < 32
 few c = c.requires
-
-pub overflow_mul-p-4 : goal.overflow_mul-p-4
-overflow_mul-p-4 c = let k = few (goal.at.overflow_mul-p-4 c).After-xor-e3 in record { fits = omega arith }
-
-pub overflow_add-p-3 : goal.overflow_add-p-3
-overflow_add-p-3 c = let k = few (goal.at.overflow_add-p-3 c).After-xor-e3 in record { fits = omega arith }
-
-pub four-requires-4 : goal.four-requires-4
-four-requires-4 c = let k = few (goal.at.four-requires-4 c).After-xor-e3 in omega arith
 
 pub returns : goal.returns
 returns c =

@@ -6,5 +6,5 @@ use Rattle.words.proofs.same.Goals as goal
 pub returns : goal.returns
 returns c =
     let a = c.args in
-    same_words a.x a.y (record { in_0 = search rules; in_1 = search rules; in_2 = search rules; in_3 = search rules })
-    (record { in_0 = search rules; in_1 = search rules; in_2 = search rules; in_3 = search rules })
+    same_words a.x a.y (search rules)
+    (search rules)
