@@ -7,7 +7,7 @@ use Prim.Native.Nat.{ℕ, ◌+◌, ◌-◌, ◌*◌, ◌≤◌, ◌<◌, min, ze
 use native.Mathlib.Omega.{arith}
 use lib.Dec.{eqb, ltb}
 use lib.ListN.{length, drop}
-use lib.Seq.{sets, length-sets}
+use lib.Seq.{sets}
 use borrow.Author.Tests.{lt-ltb, le-ltb, ltb-true, ltb-false, ne_eqb}
 use Rattle.scope.specs.Refusals.{pick, granted, refuse}
 use Rattle.scope.specs.declared.Refusal.{Refusal}
@@ -41,9 +41,6 @@ module _ (d : Bool) (s : Registers) (g : IsRegisters s) (xs : List ℕ) (from n 
   pub made_none : Made d s xs from n 0 s xs
   unfolding moves blocks zs
   made_none = record { at_most = zero-le; state = refl; written = refl }
-
-  pub made_long : {i : ℕ} {t : Registers} {out : List ℕ} → Made d s xs from n i t out → length out ≡ length xs
-  made_long {i} m = ap length m.written ∙ length-sets xs from (blocks d i s)
 
   -- k steps more: their blocks are put behind the blocks so far
   pub made_more : (i k : ℕ) {t t' : Registers} {out out' : List ℕ} → i + k ≤ n → Made d s xs from n i t out

@@ -31,13 +31,6 @@ loop-i-init c =
       ap (λ (k : ℕ). moves forward k S) e,
     )
 
-pub sealed_batch-v-requires : goal.sealed_batch-v-requires
-sealed_batch-v-requires c =
-    let q = c.requires in
-    let most = c.at_most-k.ensures.1 in
-    let h = c.loop-i-test.true in
-    (c.at_most-k.ensures.0, omega (arith, most, h, q.0), omega (arith, most, h, q.1, c.loop-i.invariant.1), q.2)
-
 -- what holds i blocks on, or n
 abbrev So : (c : After-sealed_batch-v) → ℕ → Type 0
 So c i =
@@ -69,17 +62,6 @@ more c =
 
 pub loop-i-preserved : goal.loop-i-preserved
 loop-i-preserved c = more (goal.at.loop-i-preserved c).After-sealed_batch-v
-
-pub returns : goal.returns
-returns c =
-    let l = c.loop-i in
-    let a = c.args in
-    let S = registers_of a.t.registers in
-    let e : min l.i a.n ≡ a.n = omega (arith, c.loop-i-test.false) in
-    record {
-      registers = l.invariant.2 ∙ ap (λ (k : ℕ). moves forward k S) e;
-      pass = subst (λ (k : ℕ). Sealed (bytes_of_element a.h) S a.text.now a.from a.n a.out.now (bytes_of_element a.t.hash) k l.out (bytes_of_element l.u.hash)) e l.invariant.0;
-    }
 
 pub returns-2 : goal.returns-2
 returns-2 c =

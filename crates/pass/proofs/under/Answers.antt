@@ -1,24 +1,16 @@
 -- `pass::under` meets its contract: at each byte, what is left to write makes the whole, in the bytes held and in the output.
-use Prim.Native.Nat.{ℕ, ◌+◌, ◌-◌, ◌<◌}
-use mathlib.Core.Path.{◌≡◌, refl, sym, ap, ◌∙◌}
+use Prim.Native.Nat.{◌+◌, ◌-◌, ◌<◌}
+use mathlib.Core.Path.{◌≡◌, refl, sym, ◌∙◌}
 use native.Mathlib.Omega.{arith}
 use borrow.Author.Rules.{rules}
-use lib.ListN.{length, length-set, drop}
-use lib.Seq.{sets, slice}
-use Rattle.words.specs.Xor.{◌⊕◌, xors}
+use lib.ListN.{length, length-set}
+use Rattle.words.specs.Xor.{◌⊕◌}
 use Rattle.pass.proofs.Masking.{mask_turn, mask_end}
 use Rattle.pass.proofs.under.Goals as goal
 use Rattle.pass.proofs.under.Goals.{Start}
 
 key_long : (c : Start) → length c.args.key ≡ 16
 key_long c = search rules
-
-pub loop-i-init : goal.loop-i-init
-loop-i-init c =
-    let a = c.args in
-    let e : a.at + (a.from - a.from) ≡ a.at = omega arith in
-    let o = c.requires.0.ordered in
-    (omega arith, o, refl, search rules, ap (λ (k : ℕ). sets a.p k (xors (slice a.from a.to a.piece.now) (drop k a.key))) e, ap (λ (k : ℕ). sets a.out.now a.from (xors (slice a.from a.to a.piece.now) (drop k a.key))) e)
 
 pub loop-i-preserved : goal.loop-i-preserved
 unfolding ◌⊕◌

@@ -1,8 +1,7 @@
 -- `pass::under_keystream` meets its contract: after i turns i blocks are written.
 use mathlib.Core.Path.{ap₂, ◌∙◌}
-use native.Mathlib.Omega.{arith}
 use Rattle.words.specs.Xor.{xors}
-use Rattle.pass.proofs.Masking.{under_none, under_turn, under_all}
+use Rattle.pass.proofs.Masking.{under_none, under_turn}
 use Rattle.pass.proofs.under_keystream.Goals as goal
 
 pub loop-i-init : goal.loop-i-init
@@ -14,8 +13,3 @@ loop-i-preserved c =
     let a = c.args in
     under_turn a.input.now a.stream.now a.out.now a.from a.n c.requires.0 c.requires.2 l.i c.loop-i-test.true l.invariant
     (c.xor.ensures ∙ ap₂ xors c.load.ensures c.load-in-loop-i.ensures) c.store.ensures
-
-pub returns : goal.returns
-returns c =
-    let a = c.args in
-    under_all a.input.now a.stream.now a.out.now a.from a.n (omega arith) c.loop-i.invariant

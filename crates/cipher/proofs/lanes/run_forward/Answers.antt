@@ -37,9 +37,6 @@ more c =
 pub loop-i-preserved : goal.loop-i-preserved
 loop-i-preserved c = more (goal.at.loop-i-preserved c).After-batch-u
 
-pub returns : goal.returns
-returns c = let p = (made_all forward (registers_of c.args.s) (good (goal.at.returns c).Start) c.args.out.now 0 c.args.n (omega arith) c.loop-i.invariant) in record { registers = p.0; out = p.1 }
-
 pub returns-2 : goal.returns-2
 returns-2 c =
     let h : c.args.n ≤ min (c.loop-i.i + 16) c.args.n = omega arith in
