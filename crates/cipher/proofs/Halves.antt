@@ -1,18 +1,15 @@
 -- Bytes of words against bytes of cells, and sigma on words: two cells make a word of the block, and sigma's four words are gathered from
 -- every second byte of the quarters put together.
-use mathlib.Core.Path.{◌≡◌, sym, ap, ap₂, ◌∙◌}
+use mathlib.Core.Path.{◌≡◌, ap, ap₂, ◌∙◌}
 use mathlib.Core.List.{List, [], ◌∷◌, ◌++◌}
-use Prim.Native.Nat.{ℕ, ◌+◌, ◌*◌, ◌/◌, ◌%◌, ◌^◌, ◌≤◌}
+use Prim.Native.Nat.{ℕ, ◌+◌, ◌*◌, ◌/◌, ◌%◌, ◌^◌}
 use native.Mathlib.Omega.{arith}
 use native.Mathlib.Nat.{mod-lt}
-use native.Mathlib.Numerals.{unary_clauses}
 use lib.Bits.{bit_and, and_block, and_mask}
 use lib.Dec.{lit<}
-use lib.ListN.{length, get_or, take, drop}
-use Rattle.words.specs.Bytes.{little, littles, part}
+use Rattle.words.specs.Bytes.{little, littles}
 use Rattle.words.specs.Machine.{bytes_of}
 use Rattle.words.specs.declared.Block.{Block}
-use Rattle.words.proofs.Rows.{tab_all, window}
 use Rattle.words.proofs.Blocks.{Words, four}
 use Rattle.aes.specs.Round.{gathered}
 use Rattle.cipher.specs.Step.{sigma}
@@ -24,19 +21,6 @@ pub half_bytes : (c0 c1 c2 c3 c4 c5 c6 c7 a b c d : ℕ)
     → littles 4 (a ∷ b ∷ c ∷ d ∷ []) ≡ littles 2 (c0 ∷ c1 ∷ c2 ∷ c3 ∷ c4 ∷ c5 ∷ c6 ∷ c7 ∷ [])
 unfolding littles little
 half_bytes c0 c1 c2 c3 c4 c5 c6 c7 a b c d p q r s = λ i. p i ++ (q i ++ (r i ++ (s i ++ [])))
-
-pub low_cells : (l : List ℕ) → length l ≡ 16
-    → get_or l 0 0 ∷ get_or l 1 0 ∷ get_or l 2 0 ∷ get_or l 3 0 ∷ get_or l 4 0 ∷ get_or l 5 0 ∷ get_or l 6 0 ∷ get_or l 7 0 ∷ [] ≡ take 8 l
-low_cells l e = ap (take 8) (tab_all 16 l e)
-
-pub high_cells : (l : List ℕ) → length l ≡ 16
-    → get_or l 8 0 ∷ get_or l 9 0 ∷ get_or l 10 0 ∷ get_or l 11 0 ∷ get_or l 12 0 ∷ get_or l 13 0 ∷ get_or l 14 0 ∷ get_or l 15 0 ∷ [] ≡ drop 8 l
-high_cells l e = ap (drop 8) (tab_all 16 l e)
-
--- eight cells of a list, from a place on
-pub cells_at : (l : List ℕ) (k : ℕ) → k + 8 ≤ length l
-    → get_or l k 0 ∷ get_or l (k + 1) 0 ∷ get_or l (k + 2) 0 ∷ get_or l (k + 3) 0 ∷ get_or l (k + 4) 0 ∷ get_or l (k + 5) 0 ∷ get_or l (k + 6) 0 ∷ get_or l (k + 7) 0 ∷ [] ≡ part k 8 l
-cells_at l k h = simp unary_clauses (sym (window 8 k l h))
 
 -- ---- sigma
 

@@ -1,14 +1,14 @@
 -- What the loop of a run has made after i turns, and the answers of a run.
 use Rattle.std.specs.Prelude.{Result, Ok, Err}
 use mathlib.Core.Path.{◌≡◌, refl, sym, ap, ◌∙◌}
-use mathlib.Core.Bool.{Bool, false}
+use mathlib.Core.Bool.{Bool, true, false}
 use mathlib.Core.List.{List, ◌++◌}
-use Prim.Native.Nat.{ℕ, ◌+◌, ◌*◌, ◌≤◌, ◌<◌, zero-le}
+use Prim.Native.Nat.{ℕ, ◌+◌, ◌-◌, ◌*◌, ◌≤◌, ◌<◌, min, zero-le}
 use native.Mathlib.Omega.{arith}
 use lib.Dec.{eqb, ltb}
 use lib.ListN.{length, drop}
-use lib.Seq.{sets, length-sets}
-use borrow.Author.Tests.{lt-ltb, le-ltb, ne_eqb}
+use lib.Seq.{sets}
+use borrow.Author.Tests.{lt-ltb, le-ltb, ltb-true, ltb-false, ne_eqb}
 use Rattle.scope.specs.Refusals.{pick, granted, refuse}
 use Rattle.scope.specs.declared.Refusal.{Refusal}
 use Rattle.scope.specs.declared.Refusal.TheVariants.{ShortOutput}
@@ -23,6 +23,14 @@ use Rattle.cipher.specs.Machine.{registers_of, state_of, state_after}
 use Rattle.cipher.proofs.Counting.{run_after}
 use Rattle.cipher.proofs.Moves.{moves_add, blocks_add, blocks_one, blocks_length}
 
+-- where a batch leads that begins at step i of n and has the steps left, or 16
+pub batch_leads : (i n : ℕ) → i < n → min i n + pick (ltb (n - i) 16) (n - i) 16 ≡ min (i + 16) n
+batch_leads i n h = go (ltb (n - i) 16) refl
+  where
+    go : (b : Bool) → ltb (n - i) 16 ≡ b → min i n + pick b (n - i) 16 ≡ min (i + 16) n
+    go true e = omega (arith, ltb-true (n - i) 16 e)
+    go false e = omega (arith, ltb-false (n - i) 16 e)
+
 -- the registers s after i steps are t, and the output that was xs has their blocks from a place on
 pub record Made (d : Bool) (s : Registers) (xs : List ℕ) (from n i : ℕ) (t : Registers) (out : List ℕ) : Type 0 where
   pub at_most : i ≤ n
@@ -33,9 +41,6 @@ module _ (d : Bool) (s : Registers) (g : IsRegisters s) (xs : List ℕ) (from n 
   pub made_none : Made d s xs from n 0 s xs
   unfolding moves blocks zs
   made_none = record { at_most = zero-le; state = refl; written = refl }
-
-  pub made_long : {i : ℕ} {t : Registers} {out : List ℕ} → Made d s xs from n i t out → length out ≡ length xs
-  made_long {i} m = ap length m.written ∙ length-sets xs from (blocks d i s)
 
   -- k steps more: their blocks are put behind the blocks so far
   pub made_more : (i k : ℕ) {t t' : Registers} {out out' : List ℕ} → i + k ≤ n → Made d s xs from n i t out

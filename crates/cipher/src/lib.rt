@@ -162,11 +162,9 @@ pub fn backward(s: Registers, inverse: &[u8; 256]) -> Moved
     ensures { Moves backward s result }
 {
     let p = z_before(s, inverse);
-    let z = p.z;
-    let registers = registers_before(s, p);
     Moved {
-        registers: registers,
-        z: z,
+        registers: registers_before(s, p),
+        z: p.z,
     }
 }
 
@@ -208,16 +206,13 @@ pub fn step_by_value(s: State) -> Result<Stepped, Refusal>
     ensures { Steps forward s result }
 {
     steps_allowed(s.count, 1, false)?;
-    let old = s.registers;
     let rounds = wide_round::table();
-    let w = lanes::forward(old, &rounds);
-    let n = w.registers;
-    let z = w.z;
+    let w = lanes::forward(s.registers, &rounds);
     let state = State {
-        registers: n,
+        registers: w.registers,
         count: counted(s.count, 1, false),
     };
-    Ok(Stepped { state, z })
+    Ok(Stepped { state, z: w.z })
 }
 
 // One step back: the only state whose step leads to this one, and that step's z. Refused: 9 at a count over 65,538, 15 at 0.
@@ -226,16 +221,13 @@ pub fn back_by_value(s: State) -> Result<Stepped, Refusal>
     ensures leads { Answers result (step_number backward (state_of s)) (λ w. (step_state forward (state_of w.state) ≡ state_of s) × (step_answer forward (state_of w.state) ≡ block (bytes_of w.z))) }
 {
     steps_allowed(s.count, 1, true)?;
-    let old = s.registers;
     let inverse = aes::inverse_sbox();
-    let w = backward(old, &inverse);
-    let n = w.registers;
-    let z = w.z;
+    let w = backward(s.registers, &inverse);
     let state = State {
-        registers: n,
+        registers: w.registers,
         count: counted(s.count, 1, true),
     };
-    Ok(Stepped { state, z })
+    Ok(Stepped { state, z: w.z })
 }
 
 // The state is lent, moved on one step, and z comes back; or the refusal, and then the state stays.
@@ -290,9 +282,8 @@ pub fn run_core(s: State, out: &mut [u8], n: usize, back: bool) -> Result<State,
     if out.len() < 16 * n {
         return Err(Refusal::ShortOutput);
     }
-    let old = s.registers;
     Ok(State {
-        registers: steps(old, out, n, back),
+        registers: steps(s.registers, out, n, back),
         count: counted(s.count, n as u64, back),
     })
 }
@@ -324,7 +315,7 @@ fn run_lent(
 }
 
 // The same where the part of the output that holds the blocks comes back, empty on a refusal: the output ends as that part ends, and behind it the rest
-// as it was.
+// as it was. The answer is lent beside it: a `Result` with the part in it has no generated proof of what the lent slice ends as, neither here nor at a caller.
 pub fn run<'a>(
     s: &mut State,
     answer: &mut Result<(), Refusal>,

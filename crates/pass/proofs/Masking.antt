@@ -5,7 +5,7 @@ use Prim.Native.Nat.{ℕ, ◌+◌, ◌*◌, ◌≤◌, ◌<◌, zero-le}
 use native.Mathlib.Numerals.{add-one}
 use native.Mathlib.Omega.{arith}
 use lib.ListN.{length, take, drop, get_or, set}
-use lib.Seq.{sets, length-sets, drop-cons, slice, slice-cons, slice_empty, take-add}
+use lib.Seq.{sets, drop-cons, slice, slice-cons, slice_empty, take-add}
 use Rattle.words.specs.Xor.{◌⊕◌, xors}
 use Rattle.words.specs.Bytes.{part}
 use Rattle.words.proofs.Rows.{xors_length, xors_append}
@@ -35,9 +35,6 @@ pub record Under (p key o : List ℕ) (from n i : ℕ) (out : List ℕ) : Type 0
   pub at_most : i ≤ n
   pub written : out ≡ sets o from (xors (part from (16 * i) p) (take (16 * i) key))
 
-pub under_size : {p key o : List ℕ} {from n i : ℕ} {out : List ℕ} → Under p key o from n i out → length out ≡ length o
-under_size {p} {key} {o} {from} {n} {i} m = ap length m.written ∙ length-sets o from (xors (part from (16 * i) p) (take (16 * i) key))
-
 module _ (p key o : List ℕ) (from n : ℕ) where
   pub under_none : Under p key o from n 0 o
   unfolding xors
@@ -59,9 +56,6 @@ module _ (p key o : List ℕ) (from n : ℕ) where
             ∙ ap₂ xors (sym (part_more p from (16 * i) 16)) (sym (take-add (16 * i) 16 key))
             ∙ ap (λ (k : ℕ). xors (part from k p) (take k key)) (sym e));
       }
-
-  pub under_all : {i : ℕ} {out : List ℕ} → n ≤ i → Under p key o from n i out → out ≡ sets o from (xors (part from (16 * n) p) (take (16 * n) key))
-  under_all {i} h m = m.written ∙ ap (λ (k : ℕ). sets o from (xors (part from (16 * k) p) (take (16 * k) key))) (let e : i ≡ n = omega (arith, m.at_most) in e)
 
 -- under k blocks that were drawn
 pub under_drawn : (p o key : List ℕ) (r : Registers) (i k : ℕ) {key₁ o₁ : List ℕ} → IsRegisters r → 16 * k ≤ length key

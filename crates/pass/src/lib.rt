@@ -54,8 +54,7 @@ fn sealed_batch(
     let l = lanes::taps(old, &mut t1, &mut t2, n);
     words::store(&mut l1, 0, r1);
     words::store(&mut l2, 0, r2);
-    let mut i: usize = 0;
-    while i < n {
+    for i in 0..n {
         let at = 16 * i;
         let next = at + 16;
         let n1 = lanes::next_r1(&l2, at, r3, lanes::tap(&t2, i));
@@ -69,7 +68,6 @@ fn sealed_batch(
         let c = words::xor(x, z);
         words::store(out, from + at, c);
         y = ghash::absorb_at(y, ghash::from_block(c), h, table, &mut m, 32 * i);
-        i += 1;
     }
     Track {
         registers: lanes::moved_to(s, l, &l1, &l2, 16 * n, r3),
@@ -93,12 +91,10 @@ pub fn sealed_blocks(
     ensures pass { Sealed (bytes_of_element h) (registers_of t.registers) text.now from n out.old (bytes_of_element t.hash) n out.new (bytes_of_element result.hash) }
 {
     let mut u = t;
-    let mut i: usize = 0;
-    while i < n {
+    for i in (0..n).step_by(16) {
         let k = lanes::at_most(n - i);
         let v = sealed_batch(u, h, text, out, from + 16 * i, k, rounds, table);
         u = v;
-        i += k;
     }
     u
 }
@@ -152,14 +148,11 @@ pub fn under(
     ensures out { out.new ≡ sets out.old from (xors (slice from to piece.now) (drop at key)) }
 {
     let mut q = p;
-    let mut k = at;
-    let mut i = from;
-    while i < to {
+    for i in from..to {
+        let k = at + (i - from);
         let c = piece[i] ^ key[k];
         out[i] = c;
         q[k] = c;
-        k += 1;
-        i += 1;
     }
     q
 }
@@ -169,14 +162,12 @@ pub fn under_keystream(input: &[u8], stream: &[u8], out: &mut [u8], from: usize,
     requires { (from + 16 * n ≤ length input.now) × (from + 16 * n ≤ length out.old) × (16 * n ≤ length stream.now) }
     ensures { out.new ≡ sets out.old from (xors (part from (16 * n) input.now) (take (16 * n) stream.now)) }
 {
-    let mut i: usize = 0;
-    while i < n {
+    for i in 0..n {
         let at = from + 16 * i;
         words::store(
             out,
             at,
             words::xor(words::load(input, at), words::load(stream, 16 * i)),
         );
-        i += 1;
     }
 }

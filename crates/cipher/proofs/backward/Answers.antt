@@ -10,9 +10,6 @@ pub returns : goal.returns
 unfolding move made
 returns c =
     record {
-      registers = c.registers_before-registers.ensures;
+      registers = c.registers_before.ensures;
       z = c.z_before-p.ensures.z ∙ z_before_is (registers_of c.args.s) (every_registers c.args.s _ c.well_formed.0);
     }
-
-pub registers_before-registers-requires : goal.registers_before-registers-requires
-registers_before-registers-requires c = c.z_before-p.ensures

@@ -1,5 +1,5 @@
 -- `cipher::counted` meets its contract: where the steps are not refused, the count neither passes its type nor goes below 0.
-use mathlib.Core.Path.{◌≡◌, refl, subst}
+use mathlib.Core.Path.{◌≡◌, subst}
 use mathlib.Core.Bool.{Bool}
 use native.Mathlib.Omega.{arith}
 use Rattle.cipher.specs.State.{steps_number}
@@ -10,13 +10,7 @@ pub overflow_sub-result : goal.overflow_sub-result
 overflow_sub-result c =
     room_back c.args.n c.args.count (subst (λ (b : Bool). steps_number b c.args.n c.args.count ≡ 0) c.if-back.true c.requires)
 
-pub returns-then-back : goal.returns-then-back
-returns-then-back c = rw c.if-back.true refl
-
 pub overflow_add-result : goal.overflow_add-result
 overflow_add-result c =
     let h = room_on c.args.n c.args.count (subst (λ (b : Bool). steps_number b c.args.n c.args.count ≡ 0) c.if-back.false c.requires) in
     record { fits = omega (arith, h) }
-
-pub returns : goal.returns
-returns c = rw c.if-back.false refl

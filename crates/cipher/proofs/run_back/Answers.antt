@@ -8,7 +8,7 @@ use Rattle.cipher.specs.Registers.{IsRegisters}
 use Rattle.cipher.specs.Run.{backward}
 use Rattle.cipher.specs.Machine.{registers_of}
 use Rattle.cipher.proofs.Typed.{every_registers}
-use Rattle.cipher.proofs.Running.{made_none, made_one, made_all}
+use Rattle.cipher.proofs.Running.{made_none, made_one}
 use Rattle.cipher.proofs.run_back.Goals as goal
 use Rattle.cipher.proofs.run_back.Goals.{Start}
 
@@ -24,6 +24,3 @@ loop-i-preserved c =
     let e : 16 * l.i ≡ 0 + 16 * l.i = omega arith in
     made_one backward (registers_of c.args.s) (good (goal.at.loop-i-preserved c).Start) c.args.out.now 0 c.args.n l.i (omega arith) l.invariant c.backward-w.ensures.registers c.backward-w.ensures.z
     (c.store.ensures ∙ ap (λ (k : ℕ). sets l.out k (bytes_of c.backward-w.result.z)) e)
-
-pub returns : goal.returns
-returns c = let p = (made_all backward (registers_of c.args.s) (good (goal.at.returns c).Start) c.args.out.now 0 c.args.n (omega arith) c.loop-i.invariant) in record { registers = p.0; out = p.1 }

@@ -1,6 +1,6 @@
 -- `pass::sealed_batch` meets its contract: after i turns, of every pass whose blocks these are, i blocks more are written and hashed, and the lanes stand
 -- at step i.
-use Prim.Native.Nat.{ℕ, ◌+◌, ◌*◌, ◌^◌, ◌<◌, ◌≤◌, zero-le}
+use Prim.Native.Nat.{ℕ, ◌+◌, ◌*◌, ◌≤◌, zero-le}
 use mathlib.Core.Path.{◌≡◌, refl, sym, ap, ap₂, subst, ◌∙◌}
 use mathlib.Core.List.{List}
 use native.Mathlib.Omega.{arith}
@@ -23,44 +23,13 @@ use Rattle.cipher.proofs.Standing.{Standing, Turned, standing_first, batch_z, ba
 use Rattle.pass.specs.Pass.{Sealed}
 use Rattle.pass.proofs.Sealing.{sealed_none, sealed_more}
 use Rattle.pass.proofs.sealed_batch.Goals as goal
-use Rattle.pass.proofs.sealed_batch.Goals.{After-output-z, After-slice_known-1, After-store-in-loop-i, After-store-in-loop-i-2, In-loop-i, Start}
+use Rattle.pass.proofs.sealed_batch.Goals.{After-output-z, In-loop-i, Start}
 
 good : (c : Start) → IsRegisters (registers_of c.args.t.registers)
 good c = every_registers c.args.t.registers _ c.well_formed.0.1.1.0
 
--- a turn stays inside the lanes, the piece and the output
-few : (c : In-loop-i) → c.loop-i.i < 16
-few c = let h = c.requires.0 in omega arith
-
 read : (c : In-loop-i) → c.args.from + 16 * c.loop-i.i + 16 ≤ length c.args.text.now
 read c = let h = c.requires.1 in omega arith
-
-room : (c : In-loop-i) → c.args.from + 16 * c.loop-i.i + 16 ≤ length c.loop-i.out
-room c =
-    let h = c.requires.2 in
-    let k = c.loop-i.invariant.2 in
-    omega arith
-
-short : (c : After-slice_known-1) → length c.args.out.now < 2 ^ 64
-short c = omega arith
-
-fits : (c : In-loop-i) → c.args.from + 16 * c.loop-i.i < 2 ^ 64
-fits c =
-    let short : length c.args.out.now < 2 ^ 64 = omega arith in
-    let h = c.requires.2 in
-    let k = short in
-    omega arith
-
--- the lanes keep their length
-kept1 : (c : After-store-in-loop-i) → length c.store-in-loop-i.new.out ≡ 272
-kept1 c =
-    let l = c.loop-i in
-    ap length c.store-in-loop-i.ensures ∙ length-sets l.l1 (16 * l.i + 16) (bytes_of c.next_r1-n1.result) ∙ l.invariant.3.long1
-
-kept2 : (c : After-store-in-loop-i-2) → length c.store-in-loop-i-2.new.out ≡ 272
-kept2 c =
-    let l = c.loop-i in
-    ap length c.store-in-loop-i-2.ensures ∙ length-sets l.l2 (16 * l.i + 16) (bytes_of c.round_at-n2.result) ∙ l.invariant.3.long2
 
 pub loop-i-init : goal.loop-i-init
 unfolding moves
@@ -73,83 +42,6 @@ loop-i-init c =
       standing_first S (good (goal.at.loop-i-init c).Start) _ _ _ _ refl refl c.store.ensures c.store-2.ensures,
       refl,
     )
-
-pub slice_bounds-next_r1-end : goal.slice_bounds-next_r1-end
-slice_bounds-next_r1-end c = sym c.loop-i.invariant.3.long2
-
-pub tap-requires : goal.tap-requires
-tap-requires c = (c.taps-l.ensures.taps.long2, few (goal.at.tap-requires c).In-loop-i)
-
-pub next_r1-n1-requires : goal.next_r1-n1-requires
-next_r1-n1-requires c = omega (arith, few (goal.at.next_r1-n1-requires c).In-loop-i, c.loop-i.invariant.3.long2)
-
-pub slice_bounds-round_at-end : goal.slice_bounds-round_at-end
-slice_bounds-round_at-end c = sym (kept1 (goal.at.slice_bounds-round_at-end c).After-store-in-loop-i)
-
-pub round_at-n2-requires : goal.round_at-n2-requires
-round_at-n2-requires c =
-    (omega (arith, few (goal.at.round_at-n2-requires c).In-loop-i, kept1 (goal.at.round_at-n2-requires c).After-store-in-loop-i), c.requires.3.of_rounds)
-
-pub slice_bounds-round_at-end-in-loop-i : goal.slice_bounds-round_at-end-in-loop-i
-slice_bounds-round_at-end-in-loop-i c = sym c.loop-i.invariant.3.long2
-
-pub round_at-n3-requires : goal.round_at-n3-requires
-round_at-n3-requires c =
-    (omega (arith, few (goal.at.round_at-n3-requires c).In-loop-i, c.loop-i.invariant.3.long2), c.requires.3.of_rounds)
-
-pub slice_bounds-store-end-in-loop-i : goal.slice_bounds-store-end-in-loop-i
-slice_bounds-store-end-in-loop-i c = sym c.loop-i.invariant.3.long1
-
-pub store-requires-in-loop-i : goal.store-requires-in-loop-i
-store-requires-in-loop-i c = omega (arith, few (goal.at.store-requires-in-loop-i c).In-loop-i, c.loop-i.invariant.3.long1)
-
-pub slice_bounds-store-end-in-loop-i-2 : goal.slice_bounds-store-end-in-loop-i-2
-slice_bounds-store-end-in-loop-i-2 c = sym c.loop-i.invariant.3.long2
-
-pub store-requires-in-loop-i-2 : goal.store-requires-in-loop-i-2
-store-requires-in-loop-i-2 c = omega (arith, few (goal.at.store-requires-in-loop-i-2 c).In-loop-i, c.loop-i.invariant.3.long2)
-
-pub slice_bounds-output-end : goal.slice_bounds-output-end
-slice_bounds-output-end c = sym (kept1 (goal.at.slice_bounds-output-end c).After-store-in-loop-i)
-
-pub slice_bounds-output-end-in-loop-i : goal.slice_bounds-output-end-in-loop-i
-slice_bounds-output-end-in-loop-i c = sym (kept2 (goal.at.slice_bounds-output-end-in-loop-i c).After-store-in-loop-i-2)
-
-pub tap-requires-in-loop-i : goal.tap-requires-in-loop-i
-tap-requires-in-loop-i c = (c.taps-l.ensures.taps.long1, few (goal.at.tap-requires-in-loop-i c).In-loop-i)
-
-pub output-z-requires : goal.output-z-requires
-output-z-requires c =
-    let h = few (goal.at.output-z-requires c).In-loop-i in
-    let k1 = kept1 (goal.at.output-z-requires c).After-store-in-loop-i in
-    let k2 = kept2 (goal.at.output-z-requires c).After-store-in-loop-i-2 in
-    (omega arith, omega arith)
-
-pub overflow_add-from : goal.overflow_add-from
-overflow_add-from c = omega (arith, fits (goal.at.overflow_add-from c).In-loop-i)
-
-pub load-x-requires : goal.load-x-requires
-load-x-requires c = read (goal.at.load-x-requires c).In-loop-i
-
-pub overflow_add-from-in-loop-i : goal.overflow_add-from-in-loop-i
-overflow_add-from-in-loop-i c = omega (arith, fits (goal.at.overflow_add-from-in-loop-i c).In-loop-i)
-
-pub store-requires-in-loop-i-3 : goal.store-requires-in-loop-i-3
-store-requires-in-loop-i-3 c = room (goal.at.store-requires-in-loop-i-3 c).In-loop-i
-
-pub overflow_mul-i : goal.overflow_mul-i
-overflow_mul-i c = omega (arith, few (goal.at.overflow_mul-i c).In-loop-i)
-
-pub absorb_at-y-requires : goal.absorb_at-y-requires
-absorb_at-y-requires c =
-    let h = few (goal.at.absorb_at-y-requires c).In-loop-i in
-    (c.requires.3.of_h, omega (arith, h), c.loop-i.invariant.4)
-
-pub overflow_add-i : goal.overflow_add-i
-overflow_add-i c = omega (arith, few (goal.at.overflow_add-i c).In-loop-i)
-
-pub loop-i-smaller : goal.loop-i-smaller
-loop-i-smaller c = omega (arith, c.loop-i-test.true)
 
 turned : (c : After-output-z) → let l = c.loop-i in let t = c.taps-l.new in
     Turned (16 * l.i) l.l1 l.l2 (bytes_of l.r3) (littles 2 (part (8 * l.i) 8 t.t1)) (littles 2 (part (8 * l.i) 8 t.t2))
@@ -186,9 +78,6 @@ loop-i-preserved c =
       batch_stands S (good (goal.at.loop-i-preserved c).Start) a.n p l.i c.loop-i-test.true c.requires.0 l.invariant.3 t,
       ap length c.absorb_at-y.ensures.scratch ∙ simp length-sets l.invariant.4,
     )
-
-pub shape_of-out : goal.shape_of-out
-shape_of-out c = c.loop-i.invariant.2
 
 pub returns : goal.returns
 returns c =

@@ -1,6 +1,6 @@
 -- `pass::sealed_batch` meets its contract: after i turns, of every pass whose blocks these are, i blocks more are written and hashed, and the lanes stand
 -- at step i.
-use Prim.Native.Nat.{◌*◌, ◌-◌, ◌≤◌}
+use Prim.Native.Nat.{◌*◌, ◌≤◌}
 use mathlib.Core.Path.{◌≡◌}
 use lib.ListN.{length}
 use Rattle.words.specs.Machine.{bytes_of}
@@ -16,6 +16,3 @@ invariant-loop-i l =
     Sealed (bytes_of_element l.h) (registers_of l.s) l.text l.from l.n l.initial.out (bytes_of_element l.initial.y) l.i l.out (bytes_of_element l.y)
     × (l.i ≤ l.n) × (length l.out ≡ length l.initial.out)
     × Standing (moves forward l.i (registers_of l.s)) (16 * l.i) l.l1 l.l2 (bytes_of l.r3) × (length l.m ≡ 512)
-
-abbrev pub decreases-loop-i : goal.decreases-loop-i
-decreases-loop-i l = l.n - l.i

@@ -1,5 +1,5 @@
 -- `pass::sealed_text` meets its contract: whole blocks in batches, and a short last block behind them, which is hashed with zeros behind it.
-use Prim.Native.Nat.{ℕ, ◌+◌, ◌-◌, ◌*◌, ◌/◌, ◌^◌, ◌<◌}
+use Prim.Native.Nat.{ℕ, ◌+◌, ◌-◌, ◌*◌, ◌/◌, ◌<◌}
 use mathlib.Core.Path.{◌≡◌, sym, ap, ap₂, subst, ◌∙◌}
 use native.Mathlib.Nat.{zero-add}
 use native.Mathlib.Omega.{arith}
@@ -21,20 +21,10 @@ use Rattle.digest.proofs.Settling.{sets_padded}
 use Rattle.pass.specs.Pass.{Sealed}
 use Rattle.pass.proofs.Sealing.{sealed_front, sealed_more, last_part}
 use Rattle.pass.proofs.sealed_text.Goals as goal
-use Rattle.pass.proofs.sealed_text.Goals.{After-slice_known-1, Else-n-eq0, Start}
-
-pub returns-then-n-eq0 : goal.returns-then-n-eq0
-returns-then-n-eq0 c =
-    let a = c.args in
-    let n = length a.text.now in
-    let e : n / 16 ≡ ceil16 n = omega (arith, c.if-n-eq0.true) in
-    subst (λ (k : ℕ). Sealed (bytes_of_element a.h) (registers_of a.s) a.text.now 0 k a.out.now (bytes_of_element a.y) k c.sealed_blocks-u.new.out (bytes_of_element c.sealed_blocks-u.result.hash)) e c.sealed_blocks-u.ensures.pass
+use Rattle.pass.proofs.sealed_text.Goals.{Else-n-eq0, Start}
 
 good : (c : Start) → IsRegisters (registers_of c.args.s)
 good c = every_registers c.args.s _ c.well_formed.0
-
-small : (c : After-slice_known-1) → length c.args.text.now < 2 ^ 64
-small c = omega arith
 
 -- a short block is left
 short : (c : Else-n-eq0) → let n = length c.args.text.now in (16 * (n / 16) < n) × (n - 16 * (n / 16) < 16) × (ceil16 n ≡ n / 16 + 1)
@@ -42,15 +32,6 @@ short c =
     let n = length c.args.text.now in
     let h = c.if-n-eq0.false in
     (omega arith, omega arith, omega arith)
-
-pub under-last-requires : goal.under-last-requires
-under-last-requires c =
-    let h = short (goal.at.under-last-requires c).Else-n-eq0 in
-    let k = c.sealed_blocks-u.auto.out in
-    (record { ordered = omega (arith, h.0); read = omega arith; room = omega (arith, k, c.requires.0); counts = omega (arith, h.1) }, omega (arith, h.1))
-
-pub absorb-requires : goal.absorb-requires
-absorb-requires c = c.requires.1.of_h
 
 pub returns : goal.returns
 returns c =
@@ -78,12 +59,3 @@ returns c =
     (ap₂ xors (last_part a.text.now q (omega (arith, h.1)) ∙ ap (λ (m : ℕ). part m 16 a.text.now) (sym (zero-add (16 * q)))) block)
     (c.under-last.ensures.out ∙ ap (λ (m : ℕ). sets c.sealed_blocks-u.new.out m b) (sym (zero-add (16 * q))))
     (c.absorb.ensures ∙ ap (eat (bytes_of_element a.h) (bytes_of_element c.sealed_blocks-u.result.hash)) read))
-
-pub sealed_blocks-u-requires : goal.sealed_blocks-u-requires
-sealed_blocks-u-requires c = let q = c.requires in (omega arith, omega (arith, q.0), q.1)
-
-pub forward-w-requires : goal.forward-w-requires
-forward-w-requires c = c.requires.1.of_rounds
-
-pub overflow_mul-whole : goal.overflow_mul-whole
-overflow_mul-whole c = omega (arith, small (goal.at.overflow_mul-whole c).After-slice_known-1)

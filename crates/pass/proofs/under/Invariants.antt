@@ -8,9 +8,6 @@ use Rattle.pass.proofs.under.Given as goal
 
 abbrev pub invariant-loop-i : goal.invariant-loop-i
 invariant-loop-i l =
-    (l.i ≤ l.to) × (length l.out ≡ length l.initial.out) × (length l.q ≡ 16) × (l.k + (l.to - l.i) ≤ 16)
-    × (sets l.q l.k (xors (slice l.i l.to l.piece) (drop l.k l.key)) ≡ sets l.initial.q l.initial.k (xors (slice l.from l.to l.piece) (drop l.initial.k l.key)))
-    × (sets l.out l.i (xors (slice l.i l.to l.piece) (drop l.k l.key)) ≡ sets l.initial.out l.from (xors (slice l.from l.to l.piece) (drop l.initial.k l.key)))
-
-abbrev pub decreases-loop-i : goal.decreases-loop-i
-decreases-loop-i l = l.to - l.i
+    (l.from ≤ l.i) × (l.i ≤ l.to) × (length l.out ≡ length l.initial.out) × (length l.q ≡ 16)
+    × (sets l.q (l.at + (l.i - l.from)) (xors (slice l.i l.to l.piece) (drop (l.at + (l.i - l.from)) l.key)) ≡ sets l.initial.q l.at (xors (slice l.from l.to l.piece) (drop l.at l.key)))
+    × (sets l.out l.i (xors (slice l.i l.to l.piece) (drop (l.at + (l.i - l.from)) l.key)) ≡ sets l.initial.out l.from (xors (slice l.from l.to l.piece) (drop l.at l.key)))

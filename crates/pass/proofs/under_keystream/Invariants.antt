@@ -1,10 +1,6 @@
 -- `pass::under_keystream` meets its contract: after i turns i blocks are written.
-use Prim.Native.Nat.{◌-◌}
 use Rattle.pass.proofs.Masking.{Under}
 use Rattle.pass.proofs.under_keystream.Given as goal
 
 abbrev pub invariant-loop-i : goal.invariant-loop-i
 invariant-loop-i l = Under l.input l.stream l.initial.out l.from l.n l.i l.out
-
-abbrev pub decreases-loop-i : goal.decreases-loop-i
-decreases-loop-i l = l.n - l.i
