@@ -1,7 +1,8 @@
 -- Who is next in lent bytes, and how the tests decide the answers, in the order of the definitions.
 use mathlib.Core.Path.{◌≡◌, refl, sym, ap, ◌∙◌}
 use mathlib.Core.List.{List, [], ◌∷◌}
-use mathlib.Core.Bool.{Bool, true, false, not, true≢false}
+use mathlib.Core.Bool.{true, false, not, true≢false}
+use Rattle.std.specs.Prelude.{Some}
 use Prim.Native.Nat.{ℕ, suc, ◌≤◌, ◌<◌}
 use native.Mathlib.Omega.{arith}
 use borrow.Author.Tests.{eq-eqb, ne_eqb, lt-ltb, le-ltb, le-leb, lt-leb, eqb-true, leb-false}
@@ -10,11 +11,11 @@ use lib.ListN.{length, drop}
 use Rattle.scope.specs.Limits.{most_turns, most_text}
 use Rattle.scope.specs.Refusals.{pick, refuse}
 use Rattle.scope.proofs.Refusing.{refuse_none}
+use Rattle.words.specs.Bytes.{number, part}
 use Rattle.scheduler.specs.Scheduler.{Stay, Scheduler, none, present, scheduler_order, place, at, next, due}
 use Rattle.scheduler.specs.Calls.{join_number}
 use Rattle.scheduler.specs.Bytes.{stays_in, how_many, scheduler_in, Leaves, join_answer}
-use Rattle.scheduler.specs.Inner.{stay_at, looked_number, Looks}
-use Rattle.scheduler.specs.declared.Looked.{Looked}
+use Rattle.scheduler.specs.Inner.{stay_at, looked_number, Stands}
 use Rattle.scheduler.proofs.Places.{stays_long, stays_at}
 use Rattle.scheduler.proofs.Order.{is_there, on_test}
 use Rattle.scheduler.proofs.Reading.{place_there}
@@ -160,35 +161,19 @@ module _ (b key iv : List ℕ) (n : ℕ) where
 
 -- ---- what an accepted one has found
 
-not_twice : (x : Bool) → not (not x) ≡ x
-not_twice true = refl
-not_twice false = refl
+module _ (b : List ℕ) (i : ℕ) (f : Stands b (Some i)) where
+  pub found_inside : i < how_many b
+  found_inside =
+      let some : 0 < length (scheduler_in b).stays = some_long (scheduler_in b).stays f.0 in
+      omega (arith, f.1, is_there scheduler_order (scheduler_in b).stays some, there_long b)
 
-module _ (b : List ℕ) (n : ℕ) (r : Looked) (k : Looks b n r) (e : r.answer ≡ 0) where
-  pub accepted_number : looked_number b n ≡ 0
-  accepted_number = sym k.answer ∙ e
+  pub found_next : next scheduler_order (scheduler_in b) ≡ stay_at b i
+  unfolding scheduler_in
+  found_next = ap (at (stays_in (how_many b) (drop 16 b))) (sym f.1) ∙ stays_at (how_many b) i (drop 16 b) found_inside ∙ place_there b i
 
-  pub found_none : not r.found ≡ true → none (scheduler_in b).stays ≡ true
-  found_none f = sym (not_twice (none (scheduler_in b).stays)) ∙ ap not (sym (k.found e)) ∙ f
-
-  module _ (f : not r.found ≡ false) where
-    pub found_some : none (scheduler_in b).stays ≡ false
-    found_some = sym (not_twice (none (scheduler_in b).stays)) ∙ ap not (sym (k.found e)) ∙ f
-
-    pub found_place : r.place ≡ place scheduler_order (scheduler_in b).stays
-    found_place = k.place e (sym (not_twice r.found) ∙ ap not f)
-
-    pub found_inside : r.place < how_many b
-    found_inside =
-        let some : 0 < length (scheduler_in b).stays = some_long (scheduler_in b).stays found_some in
-        omega (arith, found_place, is_there scheduler_order (scheduler_in b).stays some, there_long b)
-
-    pub found_next : next scheduler_order (scheduler_in b) ≡ stay_at b r.place
-    unfolding scheduler_in
-    found_next = ap (at (stays_in (how_many b) (drop 16 b))) (sym found_place) ∙ stays_at (how_many b) r.place (drop 16 b) found_inside ∙ place_there b r.place
-
-    pub found_more : (scheduler_in b).turns < most_turns
-    found_more = leb-false most_turns (scheduler_in b).turns (looked_more b n accepted_number found_some).0
+  pub found_more : (n : ℕ) → looked_number b n ≡ 0 → number (part 0 8 b) < most_turns
+  unfolding scheduler_in
+  found_more n e = leb-false most_turns (scheduler_in b).turns (looked_more b n e f.0).0
 
 pub few_there : (b : List ℕ) → how_many b ≤ 32
 unfolding how_many

@@ -1,15 +1,16 @@
 -- What the private functions compute: their contracts name it.
-use Rattle.std.specs.Prelude.{ℕ, suc, ◌+◌, ◌-◌, ◌*◌, ◌≡◌, true, not, List, [], ◌∷◌, ◌++◌, eqb, leb, take, drop, replicate}
+use Rattle.std.specs.Prelude.{ℕ, suc, ◌+◌, ◌-◌, ◌*◌, ◌≡◌, true, false, not, Option, None, Some, Result, List, [], ◌∷◌, ◌++◌, eqb, leb, take, drop, replicate}
 use Rattle.scope.specs.Limits.{most_turns}
 use Rattle.scope.specs.Refusals.{pick, refuse, too_long, count_too_high}
-use Rattle.words.specs.Bytes.{part, zeros}
+use Rattle.scope.specs.Machine.{Answers}
+use Rattle.scope.specs.declared.Refusal.{Refusal}
+use Rattle.words.specs.Bytes.{part}
 use Rattle.session.specs.Session.{Session}
 use Rattle.session.specs.Calls.{finish_call}
 use Rattle.bytes_c.specs.SessionBytes.{session_bytes}
 use Rattle.scheduler.specs.Scheduler.{Stay, Scheduler, none, iv_of, scheduler_order, place, next, due}
 use Rattle.scheduler.specs.Calls.{rest, put}
 use Rattle.scheduler.specs.Bytes.{scheduler_in, stay_in, whole, Leaves}
-use Rattle.scheduler.specs.declared.Looked.{Looked}
 use Rattle.scheduler.specs.declared.Turned.{Turned}
 
 -- the stay that the bytes of place i list
@@ -28,10 +29,13 @@ looked_number b n =
     (pick (none (scheduler_in b).stays) 0
     (refuse (leb most_turns (scheduler_in b).turns) count_too_high (refuse (not (eqb n (due (next scheduler_order (scheduler_in b))))) too_long 0)))
 
-pub record Looks (b : List ℕ) (n : ℕ) (r : Looked) : Type 0 where
-  pub answer : r.answer ≡ looked_number b n
-  pub found : r.answer ≡ 0 → r.found ≡ not (none (scheduler_in b).stays)
-  pub place : r.answer ≡ 0 → r.found ≡ true → r.place ≡ place scheduler_order (scheduler_in b).stays
+-- whether anybody is there, and the place of the next
+abbrev pub Stands : (scheduler : List ℕ) → Option ℕ → Type 0
+Stands b None = none (scheduler_in b).stays ≡ true
+Stands b (Some i) = (none (scheduler_in b).stays ≡ false) × (i ≡ place scheduler_order (scheduler_in b).stays)
+
+abbrev pub Looks : (scheduler : List ℕ) → (n : ℕ) → Result (Option ℕ) Refusal → Type 0
+Looks b n r = Answers r (looked_number b n) (Stands b)
 
 -- a numbered turn of the stay at place i, whose session is u then: what there is of it afterwards, and what the turn says
 abbrev pub goes_on_as : (scheduler : List ℕ) → (i : ℕ) → Session → Scheduler
@@ -47,8 +51,6 @@ abbrev pub ServedBytes : (before : List ℕ) → (i : ℕ) → Session → (afte
 ServedBytes b i u after = Leaves true (goes_on_as b i u) b after
 
 pub record Serves (b : List ℕ) (i : ℕ) (u : Session) (r : Turned) : Type 0 where
-  pub answer : r.answer ≡ 0
   pub turn : r.turn ≡ suc (scheduler_in b).turns
   pub iv : r.iv ≡ iv_of (stay_at b i)
-  pub done : r.done ≡ eqb (rest (stay_at b i)) 0
-  pub tag : r.tag ≡ pick (eqb (rest (stay_at b i)) 0) (finish_call u).tag zeros
+  pub tag : r.tag ≡ pick (eqb (rest (stay_at b i)) 0) (Some (finish_call u).tag) None

@@ -6,6 +6,7 @@
 ghost use Rattle.std.specs.Prelude.{◌≡◌, false, List, ℕ, ◌+◌, ◌*◌, ◌%◌, ◌<◌, ◌≤◌, min, length, drop};
 ghost use Rattle.std.proofs.lemmas.List.Edits.{sets};
 ghost use Rattle.scope.specs.Limits.{most_stays, most_piece, most_turns};
+ghost use Rattle.scope.specs.Machine.{refusal_number, answer_number};
 ghost use Rattle.scope.specs.Refusals.{short_output};
 ghost use Rattle.words.specs.Bytes;
 ghost use Rattle.words.specs.Bytes.{part, zeros};
@@ -17,9 +18,11 @@ ghost use Rattle.bytes_c.specs.SessionBytes.{session_bytes};
 ghost use Rattle.scheduler.specs.Scheduler as Scheduler;
 ghost use Rattle.scheduler.specs.Scheduler.{iv_of, goes_before, scheduler_order, place};
 ghost use Rattle.scheduler.specs.Calls.{answer, numbered, whom, finished, tag};
-ghost use Rattle.scheduler.specs.Bytes.{scheduler_length, zeroed, stay_bytes, head, stays_in, how_many, empty_answer, empty_writes, join_answer, JoinLeaves, next_answer, next_found, next_iv, next_due, turn_outcome, turn_writes, TurnLeaves};
+ghost use Rattle.scheduler.specs.Bytes.{scheduler_length, zeroed, stay_bytes, head, stays_in, how_many, empty_answer, empty_writes, join_answer, JoinLeaves, next_answer, next_found, next_iv, next_due, turn_outcome, turn_writes, is_served, TurnLeaves};
+ghost use Rattle.scheduler.specs.Machine.{found_of, next_iv_of, next_due_of, served_of, turn_of, whom_of, finished_of, tag_of};
 ghost use Rattle.scheduler.specs.Inner.{stay_at, removed, Looks, Serves, ServedBytes};
 
+use scope::Refusal;
 use session::Session;
 use words::Block;
 
@@ -34,29 +37,26 @@ fn zero_front(s: &mut [u8], k: usize)
 }
 
 // Makes a scheduler with nobody in it, at the front of a buffer. Refused: 4.
-pub fn empty(scheduler: &mut [u8]) -> u64
-    ensures answer { result ≡ empty_answer scheduler.old }
+pub fn empty(scheduler: &mut [u8]) -> Result<(), Refusal>
+    ensures answer { answer_number result ≡ empty_answer scheduler.old }
     ensures scheduler { scheduler.new ≡ empty_writes scheduler.old }
 {
     if scheduler.len() < SCHEDULER_BYTES {
-        return scope::SHORT_OUTPUT;
+        return Err(Refusal::ShortOutput);
     }
     zero_front(scheduler, SCHEDULER_BYTES);
-    scope::ACCEPTED
+    Ok(())
 }
 
 // ---- what the bytes say
 
 // How many stays are there.
+#[tactic(auto, unfolding(crate::specs::Bytes::how_many))]
 fn stays(s: &[u8]) -> usize
     requires { length s.now ≡ scheduler_length }
     ensures { (result ≡ how_many s.now) × (result ≤ most_stays) }
 {
-    let n = fields::get(s, 8, 8);
-    if n > scope::MOST_STAYS as u64 {
-        return scope::MOST_STAYS;
-    }
-    n as usize
+    fields::get(s, 8, 8).min(scope::MOST_STAYS as u64) as usize
 }
 
 // The number of the stay at a place.
@@ -87,10 +87,7 @@ fn mark_at(s: &[u8], i: usize) -> u64
 fn due_of(left: u64) -> u64
     ensures { result ≡ min most_piece left }
 {
-    if left < scope::MOST_PIECE {
-        return left;
-    }
-    scope::MOST_PIECE
+    left.min(scope::MOST_PIECE)
 }
 
 // Whether the stay at place i comes before the one at place j, whatever their places.
@@ -107,12 +104,10 @@ fn next_place(s: &[u8], n: usize) -> usize
     ensures { result ≡ place scheduler_order (stays_in n (drop 16 s.now)) }
 {
     let mut best: usize = 0;
-    let mut i: usize = 0;
-    while i < n {
+    for i in 0..n {
         if comes_before(s, i, best) {
             best = i;
         }
-        i += 1;
     }
     best
 }
@@ -122,13 +117,7 @@ fn present(s: &[u8], n: usize, iv: Block) -> bool
     requires { (length s.now ≡ scheduler_length) × (n ≤ most_stays) }
     ensures { result ≡ Scheduler.present (bytes_of iv) (stays_in n (drop 16 s.now)) }
 {
-    let mut found = false;
-    let mut i: usize = 0;
-    while i < n {
-        found = found | words::same(iv_at(s, i), iv);
-        i += 1;
-    }
-    found
+    (0..n).any(|i| words::same(iv_at(s, i), iv))
 }
 
 // ---- what is written
@@ -168,137 +157,91 @@ fn remove(s: &mut [u8], i: usize, n: usize)
 
 // A stay joins with a key, its number and the length of its text, and with no data; it stands last. Refused: 8 for a scheduler that is not 8,208 bytes, 1, 2, 3 for a length
 // that is not 1 to 1,048,576, 19 where 32 stays are there, 16 where that number is.
-pub fn join(scheduler: &mut [u8], key: &[u8], iv: &[u8], length: u64) -> u64
-    ensures answer { result ≡ join_answer scheduler.old key.now iv.now length }
+pub fn join(scheduler: &mut [u8], key: &[u8], iv: &[u8], length: u64) -> Result<(), Refusal>
+    ensures answer { answer_number result ≡ join_answer scheduler.old key.now iv.now length }
     ensures scheduler { JoinLeaves scheduler.old key.now iv.now length scheduler.new }
 {
     if scheduler.len() != SCHEDULER_BYTES {
-        return scope::BAD_BLOCK;
+        return Err(Refusal::BadBlock);
     }
     if key.len() != 32 {
-        return scope::KEY_LENGTH;
+        return Err(Refusal::KeyLength);
     }
     if iv.len() != 16 {
-        return scope::IV_LENGTH;
+        return Err(Refusal::IvLength);
     }
     if length == 0 {
-        return scope::TOO_LONG;
+        return Err(Refusal::TooLong);
     }
     if length > scope::MOST_TEXT {
-        return scope::TOO_LONG;
+        return Err(Refusal::TooLong);
     }
     let n = stays(scheduler);
     if n >= scope::MOST_STAYS {
-        return scope::SCHEDULER_FULL;
+        return Err(Refusal::SchedulerFull);
     }
     if present(scheduler, n, words::load(iv, 0)) {
-        return scope::NUMBER_TAKEN;
+        return Err(Refusal::NumberTaken);
     }
-    let begun = session::begin(key, iv);
-    let fresh = begun.session;
+    let fresh = session::begin(key, iv)?;
     let turns = fields::get(scheduler, 0, 8);
     put_stay(scheduler, n, fresh, length, turns);
     put_head(scheduler, turns, n + 1);
-    scope::ACCEPTED
+    Ok(())
 }
 
 // ---- who is next
 
-// Whether anybody is there, and then the number of the stay that comes next and the length of its piece; zeros where nobody is. Beside them the answer, 0 or the refusal's
-// number.
+// The number of the stay that comes next, and the length of its piece.
 #[derive(Clone, Copy)]
 pub struct NextStay {
-    pub answer: u64,
-    pub found: bool,
     pub iv: [u8; 16],
     pub due: u64,
 }
 
-// Says who comes next. Where it names a stay, that one is next until a turn is numbered, whoever joins, at a scheduler that calls from an empty one on wrote. Refused: 8 for a
-// scheduler that is not 8,208 bytes.
-pub fn next(scheduler: &[u8]) -> NextStay
-    ensures answer { result.answer ≡ next_answer scheduler.now }
-    ensures found { result.found ≡ next_found scheduler.now }
-    ensures iv { result.iv ≡ next_iv scheduler.now }
-    ensures due { result.due ≡ next_due scheduler.now }
+// Says who comes next, if anybody is there. Where it names a stay, that one is next until a turn is numbered, whoever joins, at a scheduler that calls from an empty one on wrote.
+// Refused: 8 for a scheduler that is not 8,208 bytes.
+pub fn next(scheduler: &[u8]) -> Result<Option<NextStay>, Refusal>
+    ensures answer { answer_number result ≡ next_answer scheduler.now }
+    ensures found { found_of result ≡ next_found scheduler.now }
+    ensures iv { next_iv_of result ≡ next_iv scheduler.now }
+    ensures due { next_due_of result ≡ next_due scheduler.now }
 {
     if scheduler.len() != SCHEDULER_BYTES {
-        return NextStay {
-            answer: scope::BAD_BLOCK,
-            found: false,
-            iv: [0; 16],
-            due: 0,
-        };
+        return Err(Refusal::BadBlock);
     }
     let n = stays(scheduler);
     if n == 0 {
-        return NextStay {
-            answer: scope::ACCEPTED,
-            found: false,
-            iv: [0; 16],
-            due: 0,
-        };
+        return Ok(None);
     }
     let i = next_place(scheduler, n);
     let iv = words::to_bytes(iv_at(scheduler, i));
     let due = due_of(left_at(scheduler, i));
-    NextStay {
-        answer: scope::ACCEPTED,
-        found: true,
-        iv: iv,
-        due: due,
-    }
+    Ok(Some(NextStay { iv, due }))
 }
 
 // ---- a turn
 
-// What a turn is answered before its session is asked, whether anybody is there, and the place of the next.
-#[derive(Clone, Copy)]
-struct Looked {
-    answer: u64,
-    found: bool,
-    place: usize,
-}
-
-// A turn with a piece of n bytes. Refused: 8; where somebody is there 9 for a turn past 2^62, 3 for a piece of another length than the one due.
-fn look(s: &[u8], n: usize) -> Looked
+// The place of the next, if anybody is there, before a turn with a piece of n bytes. Refused: 8; where somebody is there 9 for a turn past 2^62, 3 for a piece of another length
+// than the one due.
+fn look(s: &[u8], n: usize) -> Result<Option<usize>, Refusal>
     ensures { Looks s.now n result }
 {
     if s.len() != SCHEDULER_BYTES {
-        return Looked {
-            answer: scope::BAD_BLOCK,
-            found: false,
-            place: 0,
-        };
+        return Err(Refusal::BadBlock);
     }
     let k = stays(s);
     if k == 0 {
-        return Looked {
-            answer: scope::ACCEPTED,
-            found: false,
-            place: 0,
-        };
+        return Ok(None);
     }
     if fields::get(s, 0, 8) >= scope::MOST_TURNS {
-        return Looked {
-            answer: scope::COUNT_TOO_HIGH,
-            found: true,
-            place: 0,
-        };
+        return Err(Refusal::CountTooHigh);
     }
-    let i = next_place(s, k);
-    if n as u64 != due_of(left_at(s, i)) {
-        return Looked {
-            answer: scope::TOO_LONG,
-            found: true,
-            place: 0,
-        };
+    let place = next_place(s, k);
+    if n as u64 != due_of(left_at(s, place)) {
+        return Err(Refusal::TooLong);
     }
-    Looked {
-        answer: scope::ACCEPTED,
-        found: true,
-        place: i,
-    }
+    Ok(Some(place))
 }
 
 // The session of the stay at a place.
@@ -310,33 +253,17 @@ fn session_at(s: &[u8], i: usize) -> Session
     bytes_c::load_session(&s[at..at + 240])
 }
 
-// A turn's answer, 0 or the refusal's number; the number of the turn, or 0 where it is not numbered; the stay that was served, whether it has finished and left, and its tag
-// then. Zeros for what there is not.
+// What a numbered turn says: its number, the stay that was served, and the tag of one that has finished and left.
 #[derive(Clone, Copy)]
 pub struct Turned {
-    pub answer: u64,
     pub turn: u64,
     pub iv: [u8; 16],
-    pub done: bool,
-    pub tag: [u8; 16],
+    pub tag: Option<[u8; 16]>,
 }
 
-// A turn that is refused, or at which nobody is there.
-fn unnumbered(n: u64) -> Turned
-    ensures { (result.answer ≡ n) × (result.turn ≡ 0) × (result.iv ≡ zeros) × (result.done ≡ false) × (result.tag ≡ zeros) }
-{
-    Turned {
-        answer: n,
-        turn: 0,
-        iv: [0; 16],
-        done: false,
-        tag: [0; 16],
-    }
-}
-
-// A numbered turn: the stay at place i has its piece sealed, and its session is u. With nothing left it leaves with its tag.
-fn served(s: &mut [u8], i: usize, u: Session) -> Turned
-    requires { (length s.old ≡ scheduler_length) × (i < how_many s.old) × (Bytes.number (part 0 8 s.old) < most_turns) }
+// A numbered turn: the stay at place i has its piece sealed, and its session is u, which is not finished. With nothing left it leaves with its tag.
+fn served(s: &mut [u8], i: usize, mut u: Session) -> Turned
+    requires { (length s.old ≡ scheduler_length) × (i < how_many s.old) × (Bytes.number (part 0 8 s.old) < most_turns) × (u.phase < 2) }
     ensures says { Serves s.old i (session_of u) result }
     ensures bytes { ServedBytes s.old i (session_of u) s.new }
 {
@@ -349,77 +276,59 @@ fn served(s: &mut [u8], i: usize, u: Session) -> Turned
         put_stay(s, i, u, rest, turn);
         put_head(s, turn, n);
         return Turned {
-            answer: scope::ACCEPTED,
-            turn: turn,
-            iv: iv,
-            done: false,
-            tag: [0; 16],
+            turn,
+            iv,
+            tag: None,
         };
     }
-    let f = session::finish(u);
-    let tag = f.tag;
+    let tag = session::finish(&mut u).unwrap().tag;
     remove(s, i, n);
     put_head(s, turn, n - 1);
     Turned {
-        answer: scope::ACCEPTED,
-        turn: turn,
-        iv: iv,
-        done: true,
-        tag: tag,
+        turn,
+        iv,
+        tag: Some(tag),
     }
 }
 
 // Gives a turn: seals the piece of the stay that comes next into the front of `out`. Where nobody is there nothing happens. Refused: 8 for a scheduler that is not 8,208 bytes;
 // where somebody is there 9 for a turn past 2^62, 3 for a piece of another length than the one due, 4. Such a turn is not numbered. (Of a stay that nobody joined, in bytes that a
 // caller made up, the session may refuse the piece with 7, 3 or 9 before 4.)
-pub fn turn(scheduler: &mut [u8], piece: &[u8], out: &mut [u8]) -> Turned
-    ensures answer { result.answer ≡ answer (turn_outcome scheduler.old piece.now out.old) }
-    ensures turn { result.turn ≡ numbered (turn_outcome scheduler.old piece.now out.old) }
-    ensures iv { result.iv ≡ whom (turn_outcome scheduler.old piece.now out.old) }
-    ensures done { result.done ≡ finished (turn_outcome scheduler.old piece.now out.old) }
-    ensures tag { result.tag ≡ tag (turn_outcome scheduler.old piece.now out.old) }
+pub fn turn(scheduler: &mut [u8], piece: &[u8], out: &mut [u8]) -> Result<Option<Turned>, Refusal>
+    ensures answer { answer_number result ≡ answer (turn_outcome scheduler.old piece.now out.old) }
+    ensures served { served_of result ≡ is_served (turn_outcome scheduler.old piece.now out.old) }
+    ensures turn { turn_of result ≡ numbered (turn_outcome scheduler.old piece.now out.old) }
+    ensures iv { whom_of result ≡ whom (turn_outcome scheduler.old piece.now out.old) }
+    ensures done { finished_of result ≡ finished (turn_outcome scheduler.old piece.now out.old) }
+    ensures tag { tag_of result ≡ tag (turn_outcome scheduler.old piece.now out.old) }
     ensures out { out.new ≡ turn_writes scheduler.old piece.now out.old }
     ensures scheduler { TurnLeaves scheduler.old piece.now out.old scheduler.new }
 {
-    let a = look(scheduler, piece.len());
-    if a.answer != 0 {
-        return unnumbered(a.answer);
-    }
-    if !a.found {
-        return unnumbered(scope::ACCEPTED);
-    }
-    let t = session::text(session_at(scheduler, a.place), piece, out);
-    let n = t.answer;
-    if n != 0 {
-        return unnumbered(n);
-    }
-    let u = t.session;
-    served(scheduler, a.place, u)
+    let Some(i) = look(scheduler, piece.len())? else {
+        return Ok(None);
+    };
+    let mut u = session_at(scheduler, i);
+    session::text(&mut u, piece, out)?;
+    Ok(Some(served(scheduler, i, u)))
 }
 
-// What text answers whatever the output, or 4 where it would be accepted.
-fn short_text(s: Session, piece: &[u8]) -> u64
-    ensures { (out : List ℕ) → result ≡ Order.next (text_call (session_of s) piece.now out).number short_output }
+// What text refuses whatever the output, or 4 where it would be accepted.
+fn short_text(mut s: Session, piece: &[u8]) -> Refusal
+    ensures { (out : List ℕ) → refusal_number result ≡ Order.next (text_call (session_of s) piece.now out).number short_output }
 {
-    let mut none = [0u8; 1];
-    let t = session::text(s, piece, &mut none[..0]);
-    let n = t.answer;
-    if n == 0 {
-        return scope::SHORT_OUTPUT;
+    match session::text(&mut s, piece, &mut []) {
+        Ok(()) => Refusal::ShortOutput,
+        Err(e) => e,
     }
-    n
 }
 
 // What a turn answers whose caller has no room for what it says, whatever its output: the refusal of the turn, else 4. Nothing is written.
-pub fn short_turn(scheduler: &[u8], piece: &[u8]) -> u64
-    ensures { (out : List ℕ) → result ≡ Order.next (answer (turn_outcome scheduler.now piece.now out)) short_output }
+pub fn short_turn(scheduler: &[u8], piece: &[u8]) -> Refusal
+    ensures { (out : List ℕ) → refusal_number result ≡ Order.next (answer (turn_outcome scheduler.now piece.now out)) short_output }
 {
-    let a = look(scheduler, piece.len());
-    if a.answer != 0 {
-        return a.answer;
+    match look(scheduler, piece.len()) {
+        Err(e) => e,
+        Ok(None) => Refusal::ShortOutput,
+        Ok(Some(i)) => short_text(session_at(scheduler, i), piece),
     }
-    if !a.found {
-        return scope::SHORT_OUTPUT;
-    }
-    short_text(session_at(scheduler, a.place), piece)
 }

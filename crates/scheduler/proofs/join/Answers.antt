@@ -11,7 +11,10 @@ use lib.Seq.{sets, take_all}
 use Rattle.words.specs.Bytes.{part}
 use Rattle.words.specs.Machine.{bytes_of}
 use Rattle.words.proofs.Typed.{known_bytes}
+use Rattle.scope.proofs.Refused as Refused
+use Rattle.start.specs.Start.{start_number}
 use Rattle.session.specs.Session.{Session}
+use Rattle.session.specs.Calls.{begin_call}
 use Rattle.session.specs.Machine.{session_of}
 use Rattle.bytes_c.specs.SessionBytes.{session_bytes}
 use Rattle.scheduler.specs.Scheduler.{Stay, present}
@@ -74,6 +77,17 @@ returns-then-present c =
     (omega (arith, c.stays-n.ensures.0, c.if-n-ge-MOST_STAYS.false)) (sym f ∙ c.if-present.true) in
     record { answer = e; scheduler = unchanged e (join_call (scheduler_in s) a.key.now a.iv.now a.length) s }
 
+-- neither length is refused any more
+begins : (key iv : List ℕ) → length key ≡ 32 → length iv ≡ 16 → (begin_call key iv).number ≡ 0
+unfolding begin_call start_number
+begins key iv k v = rw (eq-eqb (length key) 32 k, eq-eqb (length iv) 16 v)
+
+pub returns-in_err-fresh : goal.returns-in_err-fresh
+returns-in_err-fresh c =
+    let a = c.args in
+    let e = c.in_err-fresh.field-0.0 in
+    absurd (Refused.refused e (c.in_err-fresh.ensures ∙ begins a.key.now a.iv.now c.if-key-ne32.false c.if-iv-ne16.false))
+
 pub put_head-requires : goal.put_head-requires
 put_head-requires c =
     let l : length c.put_stay.new.s ≡ length c.args.scheduler.now = search rules in
@@ -99,9 +113,9 @@ returns c =
     let f = looked s iv (bytes_of c.load.result) c.stays-n.result c.present.result c.if-iv-ne16.false c.stays-n.ensures.0 c.load.ensures c.present.ensures in
     let room : how_many s < 32 = omega (arith, c.stays-n.ensures.0, c.if-n-ge-MOST_STAYS.false) in
     let e = join_right s key iv a.length c.if-scheduler-ne-SCHEDULER_BYTES.false c.if-key-ne32.false c.if-iv-ne16.false c.if-length-eq0.false c.if-length-gt-MOST_TEXT.false room (sym f ∙ c.if-present.false) in
-    let x : Stay = record { session = session_bytes (session_of c.begin-begun.result.session); left = a.length; mark = c.get-turns.result } in
+    let x : Stay = record { session = session_bytes (session_of c.in_ok-fresh.fresh); left = a.length; mark = c.get-turns.result } in
     let xe : x ≡ newcomer (scheduler_in s) key iv a.length =
-    ap₂ (λ (u : Session) (m : ℕ). record { session = session_bytes u; left = a.length; mark = m }) c.begin-begun.ensures.session c.get-turns.ensures.0 in record {
+    ap₂ (λ (u : Session) (m : ℕ). record { session = session_bytes u; left = a.length; mark = m }) c.in_ok-fresh.ensures.1 c.get-turns.ensures.0 in record {
       answer = e;
       scheduler = accepts s key iv a.length c.if-scheduler-ne-SCHEDULER_BYTES.false e x xe
           (joining s (known_bytes s c.slice_known-1.given) c.if-scheduler-ne-SCHEDULER_BYTES.false x

@@ -18,7 +18,7 @@ use Rattle.scheduler.proofs.next_place.Goals.{then-comes_before, else-comes_befo
 
 pub loop-i-init : goal.loop-i-init
 unfolding stays_in place
-loop-i-init c = (omega arith, omega arith, refl)
+loop-i-init c = (omega arith, refl)
 
 -- one place more
 turn : (s : List ℕ) (i best : ℕ) (b : Bool) → best ≤ i → best ≡ place scheduler_order (stays_in i (drop 16 s))
@@ -37,12 +37,11 @@ turn s i best b h e p =
 pub loop-i-preserved : goal.loop-i-preserved
 loop-i-preserved c =
     let l = c.loop-i in
-    let a = c.args in
-    let s = a.s.now in
-    let t = turn s l.i l.best c.comes_before.result l.invariant.1 l.invariant.2 c.comes_before.ensures in
+    let s = c.args.s.now in
+    let t = turn s l.i l.best c.comes_before.result l.invariant.0 l.invariant.1 c.comes_before.ensures in
     elim c.if-comes_before.branch [
-      | then-comes_before w ↦ (omega arith, omega (arith, w.best-is), w.best-is ∙ subst (λ (b : Bool). pick b l.i l.best ≡ place scheduler_order (stays_in (l.i + 1) (drop 16 s))) w.if-comes_before.true t)
-      | else-comes_before w ↦ (omega arith, omega (arith, w.best-is), w.best-is ∙ subst (λ (b : Bool). pick b l.i l.best ≡ place scheduler_order (stays_in (l.i + 1) (drop 16 s))) w.if-comes_before.false t)
+      | then-comes_before w ↦ (omega (arith, w.best-is), w.best-is ∙ subst (λ (b : Bool). pick b l.i l.best ≡ place scheduler_order (stays_in (l.i + 1) (drop 16 s))) w.if-comes_before.true t)
+      | else-comes_before w ↦ (omega (arith, w.best-is), w.best-is ∙ subst (λ (b : Bool). pick b l.i l.best ≡ place scheduler_order (stays_in (l.i + 1) (drop 16 s))) w.if-comes_before.false t)
     ]
 
 pub returns : goal.returns
@@ -50,4 +49,4 @@ returns c =
     let l = c.loop-i in
     let a = c.args in
     let e : l.i ≡ a.n = omega arith in
-    l.invariant.2 ∙ ap (λ (k : ℕ). place scheduler_order (stays_in k (drop 16 a.s.now))) e
+    l.invariant.1 ∙ ap (λ (k : ℕ). place scheduler_order (stays_in k (drop 16 a.s.now))) e

@@ -1,15 +1,21 @@
 -- `scheduler::served` meets its contract, by whether anything is left.
+use Rattle.std.specs.Prelude.{Some, Result, Ok, Err, IsOk}
 use mathlib.Core.Path.{◌≡◌, refl, sym, ap, ◌∙◌}
 use mathlib.Core.Bool.{true, false}
-use Prim.Native.Nat.{ℕ, ◌-◌}
+use Prim.Native.Nat.{ℕ, ◌-◌, ◌<◌}
 use native.Mathlib.Omega.{arith}
-use borrow.Author.Tests.{eq-eqb, ne_eqb}
+use borrow.Author.Tests.{eq-eqb, ne_eqb, lt-ltb}
 use lib.Dec.{eqb}
 use lib.ListN.{length}
 use Rattle.words.proofs.Rows.{Below}
 use Rattle.words.proofs.Typed.{known_bytes}
-use Rattle.session.specs.Calls.{Finished}
-use Rattle.session.specs.Machine.{session_of}
+use Rattle.scope.specs.declared.Refusal.{Refusal}
+use Rattle.scope.proofs.Refused as Refused
+use Rattle.session.specs.declared.Session as machine
+use Rattle.session.specs.declared.Closing.{Closing}
+use Rattle.session.specs.Session.{Session}
+use Rattle.session.specs.Calls.{Finished, finish_number, finish_call}
+use Rattle.session.specs.Machine.{session_of, finished_of}
 use Rattle.scheduler.specs.Calls.{rest}
 use Rattle.scheduler.specs.Bytes.{scheduler_in}
 use Rattle.scheduler.specs.Inner.{stay_at, removed}
@@ -24,6 +30,15 @@ bytes c = known_bytes c.args.s.now c.slice_known-1.given
 pub overflow_sub-n : goal.overflow_sub-n
 overflow_sub-n c =
     omega (arith, c.stays-n.ensures.0, c.requires.1)
+
+-- a session that is not finished does not refuse to be
+finishes : (r : Result Closing Refusal) (v : machine.Session) (u : Session) → u.phase < 2 → finished_of r v ≡ finish_call u → IsOk r
+unfolding finish_call finish_number
+finishes (Ok f) v u h e = refl
+finishes (Err x) v u h e = absurd (Refused.refused x (ap (λ (z : Finished). z.number) e ∙ rw (lt-ltb u.phase 2 h)))
+
+pub unwrap-requires : goal.unwrap-requires
+unwrap-requires c = finishes c.finish.result c.finish.new.s (session_of c.args.u) c.requires.3 c.finish.ensures
 
 pub put_head-requires-2 : goal.put_head-requires-2
 put_head-requires-2 c =
@@ -40,10 +55,8 @@ returns-then-rest-ne0 c =
     let r : c.left_at-left.result - c.due_of.result ≡ rest (stay_at s i) = omega (arith, c.left_at-left.ensures, c.due_of.ensures) in
     let none : eqb (rest (stay_at s i)) 0 ≡ false = ne_eqb (rest (stay_at s i)) 0 (λ z. c.if-rest-ne0.true (r ∙ z)) in record {
       says = record {
-        answer = refl;
         turn = omega (arith, c.get-turn.ensures.0);
         iv = c.to_bytes-iv.ensures ∙ c.iv_at.ensures;
-        done = sym none;
         tag = rw none;
       };
       bytes = staying s (bytes (goal.at.returns-then-rest-ne0 c).After-slice_known-1) c.requires.0 i c.requires.1 c.requires.2 u (omega (arith, c.get-turn.ensures.0)) c.stays-n.ensures.0 r c.if-rest-ne0.true
@@ -59,11 +72,9 @@ returns c =
     let r : c.left_at-left.result - c.due_of.result ≡ rest (stay_at s i) = omega (arith, c.left_at-left.ensures, c.due_of.ensures) in
     let all : eqb (rest (stay_at s i)) 0 ≡ true = eq-eqb (rest (stay_at s i)) 0 (sym r ∙ c.if-rest-ne0.false) in record {
       says = record {
-        answer = refl;
         turn = omega (arith, c.get-turn.ensures.0);
         iv = c.to_bytes-iv.ensures ∙ c.iv_at.ensures;
-        done = sym all;
-        tag = rw all (ap (λ (z : Finished). z.tag) c.finish-f.ensures);
+        tag = rw all (ap (λ (z : Finished). Some z.tag) (rw c.unwrap.ensures at c.finish.ensures));
       };
       bytes = leaving s (bytes (goal.at.returns c).After-slice_known-1) c.requires.0 i c.requires.1 c.requires.2 u (omega (arith, c.get-turn.ensures.0)) c.stays-n.ensures.0 r c.if-rest-ne0.false
           c.remove.ensures c.put_head-2.ensures;

@@ -1,12 +1,14 @@
 -- `scheduler::short_text` meets its contract: the output decides only between 4 and 0, and either makes 4.
-use mathlib.Core.Path.{◌≡◌, refl, sym, ap, ◌∙◌}
+use mathlib.Core.Path.{◌≡◌, refl, ap, ◌∙◌}
 use mathlib.Core.List.{List}
 use mathlib.Core.Bool.{Bool, true, false, not}
 use Prim.Native.Nat.{ℕ, ◌+◌}
 use lib.Dec.{ltb}
 use lib.ListN.{length}
 use Rattle.scope.specs.Limits.{most_text}
+use Rattle.scope.specs.Machine.{refusal_number}
 use Rattle.scope.specs.Refusals.{refuse, granted}
+use Rattle.scope.proofs.Refused as Refused
 use Rattle.session.specs.Session.{Session}
 use Rattle.session.specs.Calls.{text_too_far, text_number, text_call}
 use Rattle.session.specs.Machine.{session_of}
@@ -32,12 +34,13 @@ whatever s p out other =
 passes : (r n : ℕ) → r ≡ n → ¬ (r ≡ 0) → r ≡ next n 4
 passes r n e h = refused e 4 r h ∙ ap (granted n 4) e
 
-pub returns-then-n-eq0 : goal.returns-then-n-eq0
-returns-then-n-eq0 c out =
+pub returns-in-Ok : goal.returns-in-Ok
+returns-in-Ok c out =
     let a = c.args in
-    accepted (sym c.if-n-eq0.true ∙ c.text-t.ensures.says.number) 4 _ ∙ whatever (session_of a.s) a.piece.now _ out
+    accepted c.in-Ok.ensures.says.number 4 _ ∙ whatever (session_of a.s) a.piece.now _ out
 
-pub returns : goal.returns
-returns c out =
+pub returns-in-Err : goal.returns-in-Err
+returns-in-Err c out =
     let a = c.args in
-    passes c.text-t.result.answer _ c.text-t.ensures.says.number c.if-n-eq0.false ∙ whatever (session_of a.s) a.piece.now _ out
+    let e = c.in-Err.e in
+    passes (refusal_number e) _ c.in-Err.ensures.says.number (Refused.refused e) ∙ whatever (session_of a.s) a.piece.now _ out

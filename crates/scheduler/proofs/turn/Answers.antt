@@ -1,45 +1,53 @@
 -- `scheduler::turn` meets its contract: what is refused before the session is asked, an empty scheduler, what the session refuses, and a numbered turn.
-use mathlib.Core.Path.{◌≡◌, sym, ap, subst, ◌∙◌}
-use mathlib.Core.List.{List}
-use Prim.Native.Nat.{ℕ, ◌<◌}
+use Rattle.std.specs.Prelude.{Some, Ok, Err}
+use mathlib.Core.Path.{◌≡◌, refl, sym, ap, subst, ◌∙◌}
+use mathlib.Core.List.{List, [], ◌∷◌}
+use mathlib.Core.Bool.{not}
+use Prim.Native.Nat.{ℕ, ◌+◌, ◌<◌}
 use native.Mathlib.Omega.{arith}
-use borrow.Author.Tests.{ne_eqb}
+use borrow.Author.Rules.{rules}
+use borrow.Author.Tests.{ne_eqb, ltb-true, not-false}
+use lib.Dec.{eqb, ltb, lit<}
 use lib.ListN.{length}
-use Rattle.scope.specs.Limits.{most_turns}
-use Rattle.words.specs.Bytes.{number, part}
+use Rattle.scope.specs.Limits.{most_text}
+use Rattle.scope.specs.Refusals.{refuse}
+use Rattle.scope.proofs.Refusing.{refuse_none}
+use Rattle.scope.proofs.Refused as Refused
 use Rattle.session.specs.Session.{Session}
-use Rattle.session.specs.Calls.{Given, text_number, text_call}
+use Rattle.session.specs.Calls.{Given, text_too_far, text_number, text_call}
 use Rattle.session.specs.Machine.{session_of}
+use Rattle.session.specs.Pieces.{closed, byte_taken, text_taken}
 use Rattle.scheduler.specs.Scheduler.{Stay, session_for, scheduler_order, next}
 use Rattle.scheduler.specs.Calls.{sealing}
 use Rattle.scheduler.specs.Bytes.{scheduler_in}
 use Rattle.scheduler.specs.Inner.{stay_at}
-use Rattle.scheduler.proofs.Looking.{looked_long, accepted_number, found_none, found_some, found_place, found_inside, found_next, found_more, few_there}
-use Rattle.scheduler.proofs.Turning.{idles, refused_first, refused_then, Turns, turns_refused, turns_idle, turns_served}
+use Rattle.scheduler.proofs.Looking.{looked_long, found_inside, found_next, found_more, few_there}
+use Rattle.scheduler.proofs.Order.{of_picked}
+use Rattle.scheduler.proofs.Turning.{idles, refused_looked, refused_sealing, Turns, turns_refused, turns_idle, turns_served}
 use Rattle.scheduler.proofs.turn.Goals as goal
 
-pub returns-then-a-ne0 : goal.returns-then-a-ne0
-returns-then-a-ne0 c = let p = (let a = c.args in
-    let b = a.scheduler.now in
-    turns_refused b a.piece.now a.out.now c.unnumbered.result c.unnumbered.ensures c.look-a.ensures.answer
-    (refused_first b a.piece.now a.out.now (λ z. c.if-a-ne0.true (c.look-a.ensures.answer ∙ z)))) in record { answer = p.0; turn = p.1.0; iv = p.1.1.0; done = p.1.1.1.0; tag = p.1.1.1.1.0; out = p.1.1.1.1.1.0; scheduler = p.1.1.1.1.1.1 }
-
-pub returns-then-not-a : goal.returns-then-not-a
-returns-then-not-a c = let p = (let a = c.args in
-    let b = a.scheduler.now in
-    let p = a.piece.now in
-    let k = c.look-a.ensures in
-    let none = found_none b (length p) c.look-a.result k c.if-a-ne0.false c.if-not-a.true in
-    turns_idle b p a.out.now c.unnumbered-then-not-a.result c.unnumbered-then-not-a.ensures
-    (idles b p a.out.now (looked_long b (length p) (accepted_number b (length p) c.look-a.result k c.if-a-ne0.false)) none)) in record { answer = p.0; turn = p.1.0; iv = p.1.1.0; done = p.1.1.1.0; tag = p.1.1.1.1.0; out = p.1.1.1.1.1.0; scheduler = p.1.1.1.1.1.1 }
-
-pub session_at-requires : goal.session_at-requires
-session_at-requires c =
+pub returns-in_err-i : goal.returns-in_err-i
+returns-in_err-i c =
     let a = c.args in
     let b = a.scheduler.now in
-    let n = length a.piece.now in
-    let k = c.look-a.ensures in
-    (looked_long b n (accepted_number b n c.look-a.result k c.if-a-ne0.false), omega (arith, found_inside b n c.look-a.result k c.if-a-ne0.false c.if-not-a.false, few_there b))
+    let e = c.in_err-i.field-0.0 in
+    let q : c.from_residual.result ≡ Err e = search rules in
+    turns_refused b a.piece.now a.out.now e q (refused_looked b a.piece.now a.out.now e c.in_err-i.ensures)
+
+pub returns-in_default : goal.returns-in_default
+returns-in_default c =
+    let a = c.args in
+    let b = a.scheduler.now in
+    let p = a.piece.now in
+    let k = rw c.in_default.is at c.in_ok-i.ensures in
+    turns_idle b p a.out.now (idles b p a.out.now (looked_long b (length p) (sym k.0)) k.1)
+
+pub session_at-u-requires : goal.session_at-u-requires
+session_at-u-requires c =
+    let a = c.args in
+    let b = a.scheduler.now in
+    let k = rw c.in-Some.is at c.in_ok-i.ensures in
+    (looked_long b (length a.piece.now) (sym k.0), omega (arith, found_inside b c.in-Some.i k.1, few_there b))
 
 -- the session that was read is the next one's
 given : (b p o : List ℕ) (i : ℕ) {s : Session} → next scheduler_order (scheduler_in b) ≡ stay_at b i → s ≡ session_for (stay_at b i)
@@ -47,51 +55,67 @@ given : (b p o : List ℕ) (i : ℕ) {s : Session} → next scheduler_order (sch
 given b p o i x e = ap (λ (s : Session). text_call s p o) e ∙ ap (λ (y : Stay). sealing y p o) (sym x)
 
 -- a refused piece writes nothing
-refused-out : (s : Session) (p o : List ℕ) → ¬ ((text_call s p o).number ≡ 0) → (text_call s p o).out ≡ o
+refused_out : (s : Session) (p o : List ℕ) → ¬ ((text_call s p o).number ≡ 0) → (text_call s p o).out ≡ o
 unfolding text_call
-refused-out s p o h = rw (ne_eqb (text_number s p o) 0 h)
+refused_out s p o h = rw (ne_eqb (text_number s p o) 0 h)
 
-pub returns-then-n-ne0 : goal.returns-then-n-ne0
-returns-then-n-ne0 c = let p = (let a = c.args in
+pub returns-in_err-text : goal.returns-in_err-text
+returns-in_err-text c =
+    let a = c.args in
     let b = a.scheduler.now in
     let p = a.piece.now in
     let o = a.out.now in
-    let k = c.look-a.ensures in
-    let e = accepted_number b (length p) c.look-a.result k c.if-a-ne0.false in
-    let some = found_some b (length p) c.look-a.result k c.if-a-ne0.false c.if-not-a.false in
-    let g = given b p o c.look-a.result.place (found_next b (length p) c.look-a.result k c.if-a-ne0.false c.if-not-a.false) c.session_at.ensures in
-    let n = c.text-t.ensures.says.number ∙ ap (λ (x : Given). x.number) g in
-    let out = c.text-t.ensures.out ∙ ap (λ (x : Given). x.out) g ∙ refused-out (session_for (next scheduler_order (scheduler_in b))) p o (λ z. c.if-n-ne0.true (n ∙ z)) in
-    subst (λ (l : List ℕ). Turns b p o c.unnumbered-then-n-ne0.result l b) (sym out)
-    (turns_refused b p o c.unnumbered-then-n-ne0.result c.unnumbered-then-n-ne0.ensures n (refused_then b p o e some (λ z. c.if-n-ne0.true (n ∙ z))))) in record { answer = p.0; turn = p.1.0; iv = p.1.1.0; done = p.1.1.1.0; tag = p.1.1.1.1.0; out = p.1.1.1.1.1.0; scheduler = p.1.1.1.1.1.1 }
+    let k = rw c.in-Some.is at c.in_ok-i.ensures in
+    let e = c.in_err-text.field-0.0 in
+    let r = c.from_residual-in_err-text.result in
+    let q : r ≡ Err e = search rules in
+    let u = session_of c.session_at-u.result in
+    let said = c.in_err-text.ensures in
+    let n = said.says.number ∙ ap (λ (x : Given). x.number) (given b p o c.in-Some.i (found_next b c.in-Some.i k.1) c.session_at-u.ensures) in
+    subst (λ (l : List ℕ). Turns b p o r l b) (sym (said.out ∙ refused_out u p o (λ z. Refused.refused e (said.says.number ∙ z))))
+    (turns_refused b p o e q (refused_sealing b p o (sym k.0) k.1.0 e n))
 
-turns_more : (b : List ℕ) → (scheduler_in b).turns < most_turns → number (part 0 8 b) < most_turns
-unfolding scheduler_in
-turns_more b h = h
+-- and after a piece that was sealed the session is not finished
+text_phase : (s : Session) (p : List ℕ) → (text_taken s p).phase ≡ s.phase
+unfolding text_taken byte_taken
+text_phase s [] = refl
+text_phase s (x ∷ p) = text_phase (byte_taken s x) p
+
+closed_open : (s : Session) → s.phase < 2 → (closed s).phase < 2
+unfolding closed
+closed_open s h = of_picked (λ (u : Session). u.phase < 2) (eqb s.phase 0) (λ z. lit< tt) (λ z. h)
+
+sealed_open : (s : Session) (p o : List ℕ) → (text_call s p o).number ≡ 0 → (text_call s p o).session.phase < 2
+unfolding text_call text_number
+sealed_open s p o e =
+    let far = refuse (text_too_far s p) 9 (refuse (ltb (length o) (length p)) 4 0) in
+    let late = (refuse_none (not (ltb s.phase 2)) 7 (refuse (ltb most_text (s.text + length p)) 3 far) (lit< tt) e).0 in
+    let early : s.phase < 2 = ltb-true s.phase 2 (not-false (ltb s.phase 2) late) in
+    rw e (subst (λ (m : ℕ). m < 2) (sym (text_phase (closed s) p)) (closed_open s early))
 
 pub served-requires : goal.served-requires
 served-requires c =
     let a = c.args in
     let b = a.scheduler.now in
     let n = length a.piece.now in
-    let k = c.look-a.ensures in
-    let z = c.if-a-ne0.false in
-    (looked_long b n (accepted_number b n c.look-a.result k z), found_inside b n c.look-a.result k z c.if-not-a.false, turns_more b (found_more b n c.look-a.result k z c.if-not-a.false))
+    let i = c.in-Some.i in
+    let k = rw c.in-Some.is at c.in_ok-i.ensures in
+    let said = c.in_ok-text.ensures.says in
+    let q = sealed_open (session_of c.session_at-u.result) a.piece.now a.out.now (sym said.number) in
+    let early : c.text.new.s.phase < 2 = subst (λ (m : ℕ). m < 2) (sym (ap (λ (s : Session). s.phase) said.session)) q in
+    (looked_long b n (sym k.0), found_inside b i k.1, found_more b i k.1 n (sym k.0), early)
 
 pub returns : goal.returns
-returns c = let p = (let a = c.args in
+returns c =
+    let a = c.args in
     let b = a.scheduler.now in
     let p = a.piece.now in
     let o = a.out.now in
-    let r = c.look-a.result in
-    let k = c.look-a.ensures in
-    let z = c.if-a-ne0.false in
-    let f = c.if-not-a.false in
-    let x = found_next b (length p) r k z f in
-    let g = given b p o r.place x c.session_at.ensures in
-    let said = c.text-t.ensures.says in
-    let out = c.text-t.ensures.out ∙ ap (λ (y : Given). y.out) g in
-    subst (λ (l : List ℕ). Turns b p o c.served.result l c.served.new.s) (sym out)
-    (turns_served b p o c.served.result (accepted_number b (length p) r k z) (found_some b (length p) r k z f) r.place (session_of c.text-t.result.session)
-    (found_place b (length p) r k z f) x (said.session ∙ ap (λ (y : Given). y.session) g)
-    (sym (said.number ∙ ap (λ (y : Given). y.number) g) ∙ c.if-n-ne0.false) c.served.ensures.says c.served.ensures.bytes)) in record { answer = p.0; turn = p.1.0; iv = p.1.1.0; done = p.1.1.1.0; tag = p.1.1.1.1.0; out = p.1.1.1.1.1.0; scheduler = p.1.1.1.1.1.1 }
+    let i = c.in-Some.i in
+    let k = rw c.in-Some.is at c.in_ok-i.ensures in
+    let x = found_next b i k.1 in
+    let g = given b p o i x c.session_at-u.ensures in
+    let said = c.in_ok-text.ensures in
+    subst (λ (l : List ℕ). Turns b p o (Ok (Some c.served.result)) l c.served.new.s) (sym (said.out ∙ ap (λ (y : Given). y.out) g))
+    (turns_served b p o (sym k.0) k.1.0 i (session_of c.text.new.s) k.1.1 x (said.says.session ∙ ap (λ (y : Given). y.session) g)
+    (sym (said.says.number ∙ ap (λ (y : Given). y.number) g)) c.served.ensures.says c.served.ensures.bytes)

@@ -1,50 +1,64 @@
 -- `scheduler_c::next` meets its contract, by the answer of the call below and the lengths of the buffers.
-use mathlib.Core.Path.{refl, ◌∙◌}
+use Rattle.std.specs.Prelude.{Err}
+use mathlib.Core.Path.{◌≡◌, refl, ◌∙◌}
+use borrow.Author.Rules.{rules}
 use Rattle.words.specs.Bytes.{little}
 use Rattle.words.proofs.Bytes.{little_long}
 use Rattle.words.proofs.Writing.{put_front}
-use Rattle.bytes_c.proofs.Answering.{never, short, fits}
+use Rattle.scope.specs.declared.Refusal.TheVariants.{ShortOutput}
+use Rattle.scope.proofs.Refused as Refused
+use Rattle.bytes_c.proofs.Answering.{short, fits}
 use Rattle.scheduler_c.specs.Calls.{asked_answer}
-use Rattle.scheduler_c.proofs.Telling.{passed, lacking, ask_refused, ask_told}
+use Rattle.scheduler_c.proofs.Telling.{passed, lacking, ask_refused, ask_nobody, ask_told}
 use Rattle.scheduler_c.proofs.next.Goals as goal
 
-pub returns-then-n-ne0 : goal.returns-then-n-ne0
+pub returns-in_err-n : goal.returns-in_err-n
 unfolding asked_answer
-returns-then-n-ne0 c = let p = (let a = c.args in
-    ask_refused a.scheduler.now a.found.now a.iv.now a.due.now (passed _ c.next-n.ensures.answer c.if-n-ne0.true) c.if-n-ne0.true) in record { answer = p.0; found = p.1.0; iv = p.1.1.0; due = p.1.1.1 }
+returns-in_err-n c =
+    let a = c.args in
+    let e = c.in_err-n.field-0.0 in
+    let q : c.from_residual.result ≡ Err e = search rules in
+    ask_refused a.scheduler.now a.found.now a.iv.now a.due.now e q (passed _ c.in_err-n.ensures.answer (Refused.refused e))
 
 pub returns-then-found-lt-FLAG_BYTES : goal.returns-then-found-lt-FLAG_BYTES
 unfolding asked_answer
-returns-then-found-lt-FLAG_BYTES c = let p = (let a = c.args in
-    ask_refused a.scheduler.now a.found.now a.iv.now a.due.now
-    (lacking _ c.next-n.ensures.answer c.if-n-ne0.false (short 1 a.found.now _ c.if-found-lt-FLAG_BYTES.true)) (never 3)) in record { answer = p.0; found = p.1.0; iv = p.1.1.0; due = p.1.1.1 }
+returns-then-found-lt-FLAG_BYTES c =
+    let a = c.args in
+    ask_refused a.scheduler.now a.found.now a.iv.now a.due.now ShortOutput refl
+    (lacking _ c.in_ok-n.ensures.answer refl (short 1 a.found.now _ c.if-found-lt-FLAG_BYTES.true))
 
 pub returns-then-iv-lt-IV_BYTES : goal.returns-then-iv-lt-IV_BYTES
 unfolding asked_answer
-returns-then-iv-lt-IV_BYTES c = let p = (let a = c.args in
-    ask_refused a.scheduler.now a.found.now a.iv.now a.due.now
-    (lacking _ c.next-n.ensures.answer c.if-n-ne0.false (short 16 a.iv.now _ c.if-iv-lt-IV_BYTES.true ∙ fits 1 a.found.now _ c.if-found-lt-FLAG_BYTES.false)) (never 3)) in record { answer = p.0; found = p.1.0; iv = p.1.1.0; due = p.1.1.1 }
+returns-then-iv-lt-IV_BYTES c =
+    let a = c.args in
+    ask_refused a.scheduler.now a.found.now a.iv.now a.due.now ShortOutput refl
+    (lacking _ c.in_ok-n.ensures.answer refl (short 16 a.iv.now _ c.if-iv-lt-IV_BYTES.true ∙ fits 1 a.found.now _ c.if-found-lt-FLAG_BYTES.false))
 
 pub returns-then-due-lt-DUE_BYTES : goal.returns-then-due-lt-DUE_BYTES
 unfolding asked_answer
-returns-then-due-lt-DUE_BYTES c = let p = (let a = c.args in
-    ask_refused a.scheduler.now a.found.now a.iv.now a.due.now
-    (lacking _ c.next-n.ensures.answer c.if-n-ne0.false (short 8 a.due.now 0 c.if-due-lt-DUE_BYTES.true ∙ fits 16 a.iv.now _ c.if-iv-lt-IV_BYTES.false ∙ fits 1 a.found.now _ c.if-found-lt-FLAG_BYTES.false))
-    (never 3)) in record { answer = p.0; found = p.1.0; iv = p.1.1.0; due = p.1.1.1 }
+returns-then-due-lt-DUE_BYTES c =
+    let a = c.args in
+    ask_refused a.scheduler.now a.found.now a.iv.now a.due.now ShortOutput refl
+    (lacking _ c.in_ok-n.ensures.answer refl
+    (short 8 a.due.now 0 c.if-due-lt-DUE_BYTES.true ∙ fits 16 a.iv.now _ c.if-iv-lt-IV_BYTES.false ∙ fits 1 a.found.now _ c.if-found-lt-FLAG_BYTES.false))
 
-pub returns-then-n : goal.returns-then-n
+pub returns-in_default : goal.returns-in_default
 unfolding asked_answer
-returns-then-n c = let p = (let a = c.args in
+returns-in_default c =
+    let a = c.args in
+    let k = rw c.in_default.is at c.in_ok-n.ensures in
+    ask_nobody a.scheduler.now a.found.now a.iv.now a.due.now
+    (lacking _ c.in_ok-n.ensures.answer refl (fits 8 a.due.now 0 c.if-due-lt-DUE_BYTES.false ∙ fits 16 a.iv.now _ c.if-iv-lt-IV_BYTES.false ∙ fits 1 a.found.now _ c.if-found-lt-FLAG_BYTES.false))
+    c.if-found-lt-FLAG_BYTES.false k.found refl
+
+pub returns : goal.returns
+unfolding asked_answer
+returns c =
+    let a = c.args in
     let due = a.due.now in
-    let d = c.next-n.result.due in
+    let k = rw c.in-Some.is at c.in_ok-n.ensures in
+    let d = c.in-Some.stay.due in
     ask_told a.scheduler.now a.found.now a.iv.now due
-    (lacking _ c.next-n.ensures.answer c.if-n-ne0.false (fits 8 due 0 c.if-due-lt-DUE_BYTES.false ∙ fits 16 a.iv.now _ c.if-iv-lt-IV_BYTES.false ∙ fits 1 a.found.now _ c.if-found-lt-FLAG_BYTES.false))
-    c.if-found-lt-FLAG_BYTES.false c.next-n.ensures.found c.flag_of.ensures c.next-n.ensures.iv c.next-n.ensures.due refl c.put_where.ensures
-    (rw c.if-n.true (c.put.ensures ∙ put_front due (little 8 d) 8 (little_long 8 d) c.if-due-lt-DUE_BYTES.false))) in record { answer = p.0; found = p.1.0; iv = p.1.1.0; due = p.1.1.1 }
-
-pub returns-else-n : goal.returns-else-n
-unfolding asked_answer
-returns-else-n c = let p = (let a = c.args in
-    ask_told a.scheduler.now a.found.now a.iv.now a.due.now
-    (lacking _ c.next-n.ensures.answer c.if-n-ne0.false (fits 8 a.due.now 0 c.if-due-lt-DUE_BYTES.false ∙ fits 16 a.iv.now _ c.if-iv-lt-IV_BYTES.false ∙ fits 1 a.found.now _ c.if-found-lt-FLAG_BYTES.false))
-    c.if-found-lt-FLAG_BYTES.false c.next-n.ensures.found c.flag_of.ensures c.next-n.ensures.iv c.next-n.ensures.due refl c.put_where.ensures (rw c.if-n.false)) in record { answer = p.0; found = p.1.0; iv = p.1.1.0; due = p.1.1.1 }
+    (lacking _ c.in_ok-n.ensures.answer refl (fits 8 due 0 c.if-due-lt-DUE_BYTES.false ∙ fits 16 a.iv.now _ c.if-iv-lt-IV_BYTES.false ∙ fits 1 a.found.now _ c.if-found-lt-FLAG_BYTES.false))
+    c.if-found-lt-FLAG_BYTES.false k.found k.iv k.due refl c.put_block.ensures
+    (c.put.ensures ∙ put_front due (little 8 d) 8 (little_long 8 d) c.if-due-lt-DUE_BYTES.false)
