@@ -5,12 +5,16 @@ use mathlib.Core.List.{List, [], ◌∷◌, ◌++◌}
 use Prim.Native.Nat.{ℕ, ◌+◌, ◌-◌, ◌*◌, ◌/◌, ◌%◌, ◌≤◌, ◌<◌}
 use native.Mathlib.Omega.{arith}
 use native.Mathlib.Numerals.{add-one}
-use borrow.Author.Tests.{lt-ltb, le-ltb, le-leb, lt-leb, ltb-true, ne_eqb}
+use borrow.Author.Tests.{lt-ltb, le-ltb, le-leb, lt-leb, ltb-true, ltb-false, ne_eqb}
 use lib.Dec.{ltb, eqb, lit<}
 use lib.ListN.{length, get_or, drop}
 use lib.Seq.{drop-cons}
+use Rattle.std.specs.Prelude.{None, Some, IsSome, is_none}
+use Rattle.std.specs.declared.option.Option.{Option}
+use Rattle.scope.specs.Refusals.{pick}
 use Rattle.words.proofs.Tests.{and_left, and_right}
 use Rattle.command.specs.Hex.{digit, all_digits, bytes_of, glyph, hex_of}
+use Rattle.command.specs.Machine.{said}
 
 -- ---- a digit by its range
 
@@ -34,6 +38,40 @@ module _ (b : ℕ) where
   pub above_f : 0x66 < b → 16 ≡ digit b
   unfolding digit
   above_f h = rw (le-leb 0x30 b (omega arith), lt-leb b 0x39 (omega arith), le-leb 0x61 b (omega arith), lt-leb b 0x66 h)
+
+-- what the code says of it
+
+pub said_some : (d : ℕ) → d < 16 → Some d ≡ said d
+unfolding said
+said_some d h = rw (lt-ltb d 16 h)
+
+pub said_none : (d : ℕ) → 15 < d → None ≡ said d
+unfolding said
+said_none d h = rw (le-ltb d 16 (omega arith))
+
+pub is_said : (r : Option ℕ) (d : ℕ) → d < 16 → r ≡ said d → IsSome r
+is_said r d h e = rw (e, ← said_some d h) refl
+
+pub said_is : (r : Option ℕ) (d v : ℕ) → d < 16 → r ≡ said d → r ≡ Some v → v ≡ d
+said_is r d v h e f = let g : Some v ≡ Some d = sym f ∙ e ∙ sym (said_some d h) in cc
+
+pub some_said : (d : ℕ) → is_none (said d) ≡ false → d < 16
+unfolding said
+some_said d = by (ltb d 16) refl
+  where
+    by : (b : Bool) → ltb d 16 ≡ b → is_none (pick {A = Option ℕ} b (Some d) None) ≡ false → d < 16
+    by true e h = ltb-true d 16 e
+    by false e h = let z : true ≡ false = h in absurd (cc)
+
+pub none_said : (d : ℕ) → is_none (said d) ≡ true → 15 < d
+unfolding said
+none_said d = by (ltb d 16) refl
+  where
+    by : (b : Bool) → ltb d 16 ≡ b → is_none (pick {A = Option ℕ} b (Some d) None) ≡ true → 15 < d
+    by true e h = absurd (cc)
+    by false e h = let k : 16 ≤ d = ltb-false d 16 e in omega arith
+
+-- ---- digits that say numbers
 
 pub small : (v : ℕ) → v < 10 → 0x30 + v ≡ glyph v
 unfolding glyph

@@ -3,7 +3,7 @@
 use mathlib.Core.Path.{◌≡◌, refl, sym, ap, ap₂, subst, ◌∙◌}
 use mathlib.Core.Bool.{true, false, ◌&&◌}
 use mathlib.Core.List.{List, [], ◌∷◌, ◌++◌, append-nil}
-use Prim.Native.Nat.{ℕ, ◌+◌, ◌*◌, ◌%◌, ◌≤◌, ◌<◌}
+use Prim.Native.Nat.{ℕ, zero, suc, ◌+◌, ◌*◌, ◌%◌, ◌≤◌, ◌<◌}
 use native.Mathlib.Omega.{arith}
 use native.Mathlib.Numerals.{add-one}
 use borrow.Author.Tests.{eq-eqb, ne_eqb, le-ltb, le-leb, lt-leb, eqb-true, leb-true}
@@ -12,6 +12,7 @@ use lib.ListN.{length, get_or, take, drop}
 use lib.Seq.{take_all, take-suc, split_at, length-take-le}
 use Rattle.scope.specs.Limits.{most_digits}
 use Rattle.scope.specs.Refusals.{pick}
+use Rattle.std.specs.List.{AllWithin}
 use Rattle.words.proofs.Tests.{and_left, and_right}
 use Rattle.command.specs.Hex.{digit, all_digits, bytes_of}
 use Rattle.command.specs.Lines.{Line, Line.ended, Line.no_line, behind, up_to_end, well_formed, checked, first_line}
@@ -104,6 +105,14 @@ module _ (s : List ℕ) (i : ℕ) (h : i < length s) (d : all_digits (take i s) 
   pub further : digit (get_or s i 0) < 16 → all_digits (take (i + 1) s) ≡ true
   further g =
       ap (λ (k : ℕ). all_digits (take k s)) (add-one i) ∙ ap all_digits (take-suc s i 0 h) ∙ all_digits_more (take i s) (get_or s i 0) d g
+
+-- digits up to a place, one by one
+pub digits_within : (s : List ℕ) (i : ℕ) → i ≤ length s → AllWithin (λ (b : ℕ). digit b < 16) s 0 i → all_digits (take i s) ≡ true
+unfolding all_digits
+digits_within s zero h w = refl
+digits_within s (suc i) h w =
+    let e : i + 1 ≡ suc i = omega arith in
+    ap (λ (k : ℕ). all_digits (take k s)) (sym e) ∙ further s i (omega arith) (digits_within s i (omega arith) (λ k d l m. w k d l (omega arith))) (w i 0 (omega arith) (omega arith))
 
 -- ---- what a well-formed line is
 

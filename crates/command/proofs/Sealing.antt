@@ -22,11 +22,10 @@ module _ (k v d t o : List ℕ) (h : length t ≤ length o) where
   unfolding answer_for
   refused_is n e z = rw (number_is, ← e, ne_eqb n 0 z)
 
-  pub sealed_is : (n m : ℕ) (tag out : List ℕ) → n ≡ seal_number k v d t o → n ≡ 0 → tag ≡ seal_tag k v d t o → out ≡ seal_out k v d t o → m ≡ length t → sealed (take m out) tag ≡ answer_for k v d t
+  pub sealed_is : (m : ℕ) (tag out : List ℕ) → 0 ≡ seal_number k v d t o → tag ≡ seal_tag k v d t o → out ≡ seal_out k v d t o → m ≡ length t → sealed (take m out) tag ≡ answer_for k v d t
   unfolding answer_for seal_tag seal_out
-  sealed_is n m tag out e z p q l =
-      let f : seal_number k v d t o ≡ 0 = sym e ∙ z in
-      let b : eqb (seal_number k v d t o) 0 ≡ true = eq-eqb (seal_number k v d t o) 0 f in
+  sealed_is m tag out e p q l =
+      let b : eqb (seal_number k v d t o) 0 ≡ true = eq-eqb (seal_number k v d t o) 0 (sym e) in
       rw (p, q, number_is, b)
       (ap (λ (c : List ℕ). sealed c (page_tag k v d t)) (take_at (cipher_of k v t) (drop (length t) o) m (cipher_length k v t ∙ sym l)))
 

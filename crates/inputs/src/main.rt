@@ -4,6 +4,7 @@
 
 use std::io;
 
+// The name of an input, and what is answered on it.
 fn show(rt: &impl Print, name: &[u8], input: &[u8]) -> io::Result<()> {
     rt.write_all(name)?;
     let mut out = [0u8; command::MOST_OUTPUT];
@@ -12,148 +13,123 @@ fn show(rt: &impl Print, name: &[u8], input: &[u8]) -> io::Result<()> {
 }
 
 // The paper's SNOW-V-GCM vector 5, and lines of no digits.
-fn good(rt: &impl Print) -> io::Result<()> {
-    show(
-        rt,
+const GOOD: [(&[u8], &[u8]); 3] = [
+    (
         b"vector 5: ",
         b"505152535455565758595a5b5c5d5e5f0a1a2a3a4a5a6a7a8a9aaabacadaeafa\n0123456789abcdeffedcba9876543210\n\n30313233343536373839\n",
-    )?;
-    show(
-        rt,
+    ),
+    (
         b"with data: ",
         b"505152535455565758595a5b5c5d5e5f0a1a2a3a4a5a6a7a8a9aaabacadaeafa\n0123456789abcdeffedcba9876543210\n00ff\n30313233343536373839\n",
-    )?;
-    show(
-        rt,
+    ),
+    (
         b"no text: ",
         b"505152535455565758595a5b5c5d5e5f0a1a2a3a4a5a6a7a8a9aaabacadaeafa\n0123456789abcdeffedcba9876543210\n\n\n",
-    )
-}
+    ),
+];
 
 // Too few lines, or something after the fourth.
-fn unended(rt: &impl Print) -> io::Result<()> {
-    show(rt, b"empty: ", b"")?;
-    show(rt, b"one byte 0a: ", b"\n")?;
-    show(
-        rt,
+const UNENDED: [(&[u8], &[u8]); 7] = [
+    (b"empty: ", b""),
+    (b"one byte 0a: ", b"\n"),
+    (
         b"three lines: ",
         b"505152535455565758595a5b5c5d5e5f0a1a2a3a4a5a6a7a8a9aaabacadaeafa\n0123456789abcdeffedcba9876543210\n\n",
-    )?;
-    show(
-        rt,
+    ),
+    (
         b"fourth line not ended: ",
         b"505152535455565758595a5b5c5d5e5f0a1a2a3a4a5a6a7a8a9aaabacadaeafa\n0123456789abcdeffedcba9876543210\n\n30313233343536373839",
-    )?;
-    show(
-        rt,
+    ),
+    (
         b"fifth line: ",
         b"505152535455565758595a5b5c5d5e5f0a1a2a3a4a5a6a7a8a9aaabacadaeafa\n0123456789abcdeffedcba9876543210\n\n30313233343536373839\n\n",
-    )?;
-    show(
-        rt,
+    ),
+    (
         b"a byte after: ",
         b"505152535455565758595a5b5c5d5e5f0a1a2a3a4a5a6a7a8a9aaabacadaeafa\n0123456789abcdeffedcba9876543210\n\n30313233343536373839\n0",
-    )?;
-    show(
-        rt,
+    ),
+    (
         b"empty line in front: ",
         b"\n505152535455565758595a5b5c5d5e5f0a1a2a3a4a5a6a7a8a9aaabacadaeafa\n0123456789abcdeffedcba9876543210\n\n30313233343536373839\n",
-    )
-}
+    ),
+];
 
 // Bytes that are no lower-case digits, those beside the digits' ranges among them; an odd number of digits.
-fn digits(rt: &impl Print) -> io::Result<()> {
-    show(
-        rt,
+const DIGITS: [(&[u8], &[u8]); 11] = [
+    (
         b"upper case: ",
         b"505152535455565758595A5b5c5d5e5f0a1a2a3a4a5a6a7a8a9aaabacadaeafa\n0123456789abcdeffedcba9876543210\n\n30313233343536373839\n",
-    )?;
-    show(
-        rt,
+    ),
+    (
         b"carriage return: ",
         b"505152535455565758595a5b5c5d5e5f0a1a2a3a4a5a6a7a8a9aaabacadaeafa\n0123456789abcdeffedcba9876543210\n\n30313233343536373839\r\n",
-    )?;
-    show(
-        rt,
+    ),
+    (
         b"space: ",
         b"505152535455565758595a5b5c5d5e5f0a1a2a3a4a5a6a7a8a9aaabacadaeafa\n0123456789abcdeffedcba9876543210\n\n30313233343536373839 0\n",
-    )?;
-    show(
-        rt,
+    ),
+    (
         b"byte 2f: ",
         b"505152535455565758595a5b5c5d5e5f0a1a2a3a4a5a6a7a8a9aaabacadaeafa\n0123456789abcdeffedcba9876543210\n\n303132333435363738390/\n",
-    )?;
-    show(
-        rt,
+    ),
+    (
         b"byte 3a: ",
         b"505152535455565758595a5b5c5d5e5f0a1a2a3a4a5a6a7a8a9aaabacadaeafa\n0123456789abcdeffedcba9876543210\n\n303132333435363738390:\n",
-    )?;
-    show(
-        rt,
+    ),
+    (
         b"byte 60: ",
         b"505152535455565758595a5b5c5d5e5f0a1a2a3a4a5a6a7a8a9aaabacadaeafa\n0123456789abcdeffedcba9876543210\n\n303132333435363738390`\n",
-    )?;
-    show(
-        rt,
+    ),
+    (
         b"byte 67: ",
         b"505152535455565758595a5b5c5d5e5f0a1a2a3a4a5a6a7a8a9aaabacadaeafa\n0123456789abcdeffedcba9876543210\n\n303132333435363738390g\n",
-    )?;
-    show(
-        rt,
+    ),
+    (
         b"byte 00: ",
         b"505152535455565758595a5b5c5d5e5f0a1a2a3a4a5a6a7a8a9aaabacadaeafa\n0123456789abcdeffedcba9876543210\n\n303132333435363738390\x00\n",
-    )?;
-    show(
-        rt,
+    ),
+    (
         b"byte ff: ",
         b"505152535455565758595a5b5c5d5e5f0a1a2a3a4a5a6a7a8a9aaabacadaeafa\n0123456789abcdeffedcba9876543210\n\n303132333435363738390\xff\n",
-    )?;
-    show(
-        rt,
+    ),
+    (
         b"odd text: ",
         b"505152535455565758595a5b5c5d5e5f0a1a2a3a4a5a6a7a8a9aaabacadaeafa\n0123456789abcdeffedcba9876543210\n\n303132333435363738390\n",
-    )?;
-    show(
-        rt,
+    ),
+    (
         b"odd key: ",
         b"505152535455565758595a5b5c5d5e5f0a1a2a3a4a5a6a7a8a9aaabacadaeaf\n0123456789abcdeffedcba9876543210\n\n30313233343536373839\n",
-    )
-}
+    ),
+];
 
 // Four well-formed lines that a seal refuses.
-fn refused(rt: &impl Print) -> io::Result<()> {
-    show(
-        rt,
+const REFUSED: [(&[u8], &[u8]); 7] = [
+    (
         b"key of 31 bytes: ",
         b"505152535455565758595a5b5c5d5e5f0a1a2a3a4a5a6a7a8a9aaabacadaea\n0123456789abcdeffedcba9876543210\n\n30313233343536373839\n",
-    )?;
-    show(
-        rt,
+    ),
+    (
         b"key of 33 bytes: ",
         b"505152535455565758595a5b5c5d5e5f0a1a2a3a4a5a6a7a8a9aaabacadaeafa00\n0123456789abcdeffedcba9876543210\n\n30313233343536373839\n",
-    )?;
-    show(
-        rt,
+    ),
+    (
         b"no key: ",
         b"\n0123456789abcdeffedcba9876543210\n\n30313233343536373839\n",
-    )?;
-    show(
-        rt,
+    ),
+    (
         b"IV of 15 bytes: ",
         b"505152535455565758595a5b5c5d5e5f0a1a2a3a4a5a6a7a8a9aaabacadaeafa\n0123456789abcdeffedcba98765432\n\n30313233343536373839\n",
-    )?;
-    show(
-        rt,
+    ),
+    (
         b"IV of 17 bytes: ",
         b"505152535455565758595a5b5c5d5e5f0a1a2a3a4a5a6a7a8a9aaabacadaeafa\n0123456789abcdeffedcba987654321000\n\n30313233343536373839\n",
-    )?;
-    show(rt, b"key and IV: ", b"\n\n\n30313233343536373839\n")?;
-    show(
-        rt,
+    ),
+    (b"key and IV: ", b"\n\n\n30313233343536373839\n"),
+    (
         b"malformed first: ",
         b"\n0123456789abcdeffedcba9876543210\n\n0\n",
-    )
-}
+    ),
+];
 
 // A text of 8,192 digits and one of 8,194, with a key and an IV of zeros.
 fn long_text(rt: &impl Print) -> io::Result<()> {
@@ -180,10 +156,11 @@ fn longest(rt: &impl Print) -> io::Result<()> {
 }
 
 fn main(rt: HostRuntime) -> io::Result<()> {
-    good(&rt)?;
-    unended(&rt)?;
-    digits(&rt)?;
-    refused(&rt)?;
+    for cases in [&GOOD[..], &UNENDED[..], &DIGITS[..], &REFUSED[..]] {
+        for (name, input) in cases {
+            show(&rt, name, input)?;
+        }
+    }
     longest(&rt)?;
     long_text(&rt)
 }

@@ -3,75 +3,45 @@
 #![tactic(auto)]
 
 ghost use Rattle.std.specs.Prelude.{length, IfOk};
-ghost use Rattle.seal.specs.Reading.{Came, Counted, Gave, Took, Answers};
+ghost use Rattle.seal.specs.Reading.{Counted, Took, Answers};
 
+use scope::Refusal;
 use std::io;
 use std::io::{Read, Write};
 
 // One byte more than the longest input that can be well formed: a full buffer is malformed whatever follows.
 const BUFFER: usize = command::MOST_INPUT + 1;
 
-#[derive(Clone, Copy)]
-enum Step {
-    More(usize),
-    End,
-    Failed,
-}
-
-// One read, of as many bytes as come.
-fn read_some<R: Read>(from: &mut R, buf: &mut [u8]) -> Step
-    ensures came { Came (length buf.old) result }
-    ensures gave { Gave (R.remaining from.old) (R.remaining from.new) (length buf.old) buf.new result }
-{
-    match from.read(buf) {
-        Ok(0) => Step::End,
-        Ok(n) => Step::More(n),
-        Err(_) => Step::Failed,
-    }
-}
-
-#[derive(Clone, Copy)]
-enum Input {
-    Read(usize),
-    Failed,
-}
-
-// Reads until the input ends or the buffer is full.
-fn read_all<R: Read>(from: &mut R, buf: &mut [u8]) -> Input
+// Reads until the input ends or the buffer is full. How many bytes a read gives is not known before it, so the loop is no `for`.
+fn read_all<R: Read>(from: &mut R, buf: &mut [u8]) -> io::Result<usize>
     ensures counted { Counted buf.new result }
     ensures took { Took (R.remaining from.old) buf.new result }
 {
     let mut done = 0;
     while done < buf.len() {
-        match read_some(from, &mut buf[done..]) {
-            Step::More(n) => {
-                done += n;
-            }
-            Step::End => {
-                return Input::Read(done);
-            }
-            Step::Failed => {
-                return Input::Failed;
-            }
+        let n = from.read(&mut buf[done..])?;
+        if n == 0 {
+            return Ok(done);
         }
+        done += n;
     }
-    Input::Read(done)
+    Ok(done)
 }
 
-// Reads an input and writes its answer. An input that cannot be read to its end is malformed.
-fn run<R: Read, W: Write>(from: &mut R, to: &mut W) -> io::Result<Input>
+// Reads an input and writes its answer, and says how many bytes it took of the input. One that cannot be read to its end is malformed.
+fn run<R: Read, W: Write>(from: &mut R, to: &mut W) -> io::Result<Option<usize>>
     ensures { IfOk result (λ input. Answers (R.remaining from.old) input (W.contents to.old) (W.contents to.new)) }
 {
     let mut buf = [0u8; BUFFER];
     let mut out = [0u8; command::MOST_OUTPUT];
-    let Input::Read(n) = read_all(from, &mut buf) else {
-        let k = command::refusal(scope::MALFORMED, &mut out);
+    let Ok(n) = read_all(from, &mut buf) else {
+        let k = command::refusal(Refusal::Malformed, &mut out);
         to.write_all(&out[..k])?;
-        return Ok(Input::Failed);
+        return Ok(None);
     };
     let k = command::answer(&buf[..n], &mut out);
     to.write_all(&out[..k])?;
-    Ok(Input::Read(n))
+    Ok(Some(n))
 }
 
 // What cannot be written is lost without a word: the program's answer is its output.

@@ -6,12 +6,14 @@ use Prim.Native.Nat.{ℕ, ◌+◌, ◌≤◌}
 use native.Mathlib.Omega.{arith}
 use borrow.Author.Rules.{rules}
 use lib.ListN.{length, take}
+use Rattle.std.specs.Prelude.{Some}
+use Rattle.std.proofs.lemmas.Result.{err_from_is_err_and}
+use Rattle.scope.proofs.Refused.{refused}
 use Rattle.command.specs.Hex.{bytes_of}
 use Rattle.command.specs.Lines.{lines_in}
 use Rattle.command.specs.Output.{answer_for, answer_to}
 use Rattle.command.specs.Machine.{between, lines_of}
 use Rattle.command.specs.declared.Places.{Places}
-use Rattle.command.specs.declared.Lines.TheVariants.{Good}
 use Rattle.command.proofs.Reading.{formed_bytes}
 use Rattle.command.specs.Laws.{FourLines}
 use Rattle.command.proofs.Whole.{read_as}
@@ -33,7 +35,7 @@ module _ (p : Places) (s : List ℕ) where
   abbrev line4 : List ℕ
   line4 = between (p.ad + 1) p.text s
 
-  whole : lines_of s (Good p) ≡ lines_in s → FourLines s line1 line2 line3 line4
+  whole : lines_of s (Some p) ≡ lines_in s → FourLines s line1 line2 line3 line4
   whole e = read_as s line1 line2 line3 line4 e
 
 pub line_bytes-k-requires : goal.line_bytes-k-requires
@@ -49,12 +51,12 @@ pub line_bytes-t-requires : goal.line_bytes-t-requires
 line_bytes-t-requires c = (omega arith, omega arith, (whole c.args.p c.args.input.now c.requires.0).text)
 
 -- the seal was of the bytes that the lines say
-answer-is : (c : After-line_bytes-t) → answer_for (take c.line_bytes-k.result c.line_bytes-k.new.out)
+answer_is : (c : After-line_bytes-t) → answer_for (take c.line_bytes-k.result c.line_bytes-k.new.out)
     (take c.line_bytes-v.result c.line_bytes-v.new.out)
     (take c.line_bytes-d.result c.line_bytes-d.new.out)
     (take c.line_bytes-t.result c.line_bytes-t.new.out)
     ≡ answer_to (lines_in c.args.input.now)
-answer-is c =
+answer_is c =
     let p = c.args.p in
     let s = c.args.input.now in
     same_answer _ _ _ _ (bytes_of (line1 p s)) (bytes_of (line2 p s)) (bytes_of (line3 p s)) (bytes_of (line4 p s))
@@ -64,30 +66,22 @@ answer-is c =
     c.line_bytes-t.ensures.bytes
     ∙ ap answer_to c.requires.0
 
-text-fits : (c : After-line_bytes-t) → length (take c.line_bytes-t.result c.line_bytes-t.new.out) ≤ length c.args.cipher.now
-text-fits c =
+text_fits : (c : After-line_bytes-t) → length (take c.line_bytes-t.result c.line_bytes-t.new.out) ≤ length c.args.cipher.now
+text_fits c =
     let p = c.args.p in
     let s = c.args.input.now in
     let n : length c.args.cipher.now ≡ 4096 = search rules in
     let m = ap length c.line_bytes-t.ensures.bytes in
     omega (arith, formed_bytes (line4 p s) (whole p s c.requires.0).text)
 
-pub returns-then-n-ne-ACCEPTED : goal.returns-then-n-ne-ACCEPTED
-returns-then-n-ne-ACCEPTED c =
-    let r = (goal.at.returns-then-n-ne-ACCEPTED c).After-line_bytes-t in
-    record {
-      answer = refused_is _ _ _ _ _ (text-fits r) _ c.seal-s.ensures.answer c.if-n-ne-ACCEPTED.true ∙ answer-is r;
-      within = tt;
-    }
+pub returns-in_err-tag-clause-answer : goal.returns-in_err-tag-clause-answer
+returns-in_err-tag-clause-answer c =
+    let r = (goal.at.returns-in_err-tag-clause-answer c).After-line_bytes-t in
+    let p = err_from_is_err_and c.from_residual.result c.from_residual.ensures.1 in
+    rw (p.1, p.2) (refused_is _ _ _ _ _ (text_fits r) _ c.in_err-tag.ensures.answer (refused _) ∙ answer_is r)
 
-pub returns : goal.returns
-returns c =
-    let r = (goal.at.returns c).After-line_bytes-t in
-    let e = c.seal-s.ensures in
-    let p = c.args.p in
-    let s = c.args.input.now in
-    let m = ap length c.line_bytes-t.ensures.bytes in
-    record {
-      answer = sealed_is _ _ _ _ _ (text-fits r) _ _ _ _ e.answer c.if-n-ne-ACCEPTED.false e.tag e.out c.line_bytes-t.ensures.count.1 ∙ answer-is r;
-      within = omega (arith, c.line_bytes-t.ensures.count, formed_bytes (line4 p s) (whole p s c.requires.0).text, text-fits r, c.seal-s.auto);
-    }
+pub returns-clause-answer : goal.returns-clause-answer
+returns-clause-answer c =
+    let r = (goal.at.returns-clause-answer c).After-line_bytes-t in
+    let e = c.in_ok-tag.ensures in
+    sealed_is _ _ _ _ _ (text_fits r) _ _ _ e.answer e.tag e.out c.line_bytes-t.ensures.count.1 ∙ answer_is r

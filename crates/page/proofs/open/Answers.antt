@@ -2,7 +2,6 @@
 use Prim.Native.Nat.{◌≤◌}
 use mathlib.Core.Path.{◌≡◌, refl, sym, ap, ap₂, ◌∙◌}
 use mathlib.Core.List.{[]}
-use native.Mathlib.Omega.{arith}
 use lib.ListN.{length}
 use Rattle.std.proofs.lemmas.Result.{err_from_is_err_and}
 use Rattle.scope.specs.declared.Refusal.TheVariants.{BadTag}
@@ -40,10 +39,6 @@ returns-in_err-before_tag c =
 
 -- ---- the session
 
-pub session_of-s-requires : goal.session_of-s-requires
-session_of-s-requires c =
-    ((ordered (goal.at.session_of-s-requires c).In_ok-before_tag).key_long, (ordered (goal.at.session_of-s-requires c).In_ok-before_tag).iv_long, (limits (goal.at.session_of-s-requires c).In_ok-before_tag).0, c.table-rounds.ensures, refl)
-
 ready : (c : After-session_of-s) → let a = c.args in session_of c.session_of-s.result ≡ session_at a.key.now a.iv.now (taking_text a.ad.now [])
 ready c = let a = c.args in c.session_of-s.ensures.session ∙ sym (session_is a.key.now a.iv.now (taking_text a.ad.now []))
 
@@ -51,10 +46,10 @@ ready c = let a = c.args in c.session_of-s.ensures.session ∙ sym (session_is a
 
 compared : (c : After-same) → let a = c.args in same a.tag.now (tag_for a.key.now a.iv.now a.ad.now a.cipher.now) ≡ c.same.result
 compared c =
-    let ordered : let a = c.args in InOrder a.key.now a.iv.now a.ad.now a.cipher.now a.tag.now a.out.now = let a = c.args in in_order a.key.now a.iv.now a.ad.now a.cipher.now a.tag.now a.out.now (sym c.in_ok-before_tag.ensures) in
-    let ready : let a = c.args in session_of c.session_of-s.result ≡ session_at a.key.now a.iv.now (taking_text a.ad.now []) = let a = c.args in c.session_of-s.ensures.session ∙ sym (session_is a.key.now a.iv.now (taking_text a.ad.now [])) in
     let a = c.args in
-    let given = front_16 _ a.tag.now ordered.tag_long c.load-given.ensures in
+    let i = in_order a.key.now a.iv.now a.ad.now a.cipher.now a.tag.now a.out.now (sym c.in_ok-before_tag.ensures) in
+    let ready = c.session_of-s.ensures.session ∙ sym (session_is a.key.now a.iv.now (taking_text a.ad.now [])) in
+    let given = front_16 _ a.tag.now i.tag_long c.load-given.ensures in
     let expected = c.tag_over-expected.ensures ∙ ap (λ (s : Session). tag_over s a.cipher.now) ready ∙ tag_over_at a.key.now a.iv.now a.ad.now a.cipher.now in
     sym (c.same.ensures ∙ ap₂ same given expected)
 
@@ -66,6 +61,7 @@ apply_keystream-requires c =
 
 pub returns : goal.returns
 returns c =
+    let at = goal.at.returns c in
     let a = c.args in
     let key = a.key.now in
     let iv = a.iv.now in
@@ -73,11 +69,12 @@ returns c =
     let x = a.cipher.now in
     let tag = a.tag.now in
     let out = a.out.now in
-    let i = ordered (goal.at.returns c).In_ok-before_tag in
-    let e = same_eq a.tag.now (tag_for a.key.now a.iv.now a.ad.now a.cipher.now) (compared (goal.at.returns c).After-same ∙ c.if-not-same.false) in record {
-      answer = sym (open_accepted key iv d i.key_long i.iv_long (limits (goal.at.returns c).In_ok-before_tag).0 x tag out i.tag_long (limits (goal.at.returns c).In_ok-before_tag).1 i.room e);
-      out = whole_out a.key.now a.iv.now a.ad.now _ (ready (goal.at.returns c).After-session_of-s) a.cipher.now a.out.now _ c.apply_keystream.ensures
-          ∙ sym (open_writes key iv d i.key_long i.iv_long (limits (goal.at.returns c).In_ok-before_tag).0 x tag out i.tag_long (limits (goal.at.returns c).In_ok-before_tag).1 i.room e);
+    let i = ordered at.In_ok-before_tag in
+    let l = limits at.In_ok-before_tag in
+    let e = same_eq tag (tag_for key iv d x) (compared at.After-same ∙ c.if-not-same.false) in record {
+      answer = sym (open_accepted key iv d i.key_long i.iv_long l.0 x tag out i.tag_long l.1 i.room e);
+      out = whole_out key iv d _ (ready at.After-session_of-s) x out _ c.apply_keystream.ensures
+          ∙ sym (open_writes key iv d i.key_long i.iv_long l.0 x tag out i.tag_long l.1 i.room e);
     }
 
 pub returns-then-not-same : goal.returns-then-not-same
@@ -86,9 +83,3 @@ returns-then-not-same c =
     let n = open_broken a.key.now a.iv.now a.ad.now a.cipher.now a.tag.now a.out.now (ordered (goal.at.returns-then-not-same c).In_ok-before_tag)
     (compared (goal.at.returns-then-not-same c).After-same ∙ c.if-not-same.true) in
     record { answer = n; out = open_leaves a.key.now a.iv.now a.ad.now a.cipher.now a.tag.now a.out.now BadTag n }
-
-pub load-given-requires : goal.load-given-requires
-load-given-requires c = omega (arith, (ordered (goal.at.load-given-requires c).In_ok-before_tag).tag_long)
-
-pub tag_over-expected-requires : goal.tag_over-expected-requires
-tag_over-expected-requires c = c.session_of-s.ensures.table

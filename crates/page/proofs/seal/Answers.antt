@@ -25,34 +25,19 @@ use Rattle.page.proofs.OnePass.{one_pass, pass_ends}
 use Rattle.page.proofs.Answers.{seal_accepted, seal_writes, seal_gives}
 use Rattle.page.proofs.Refusing.{within, seal_start, seal_over, seal_short, seal_refused}
 use Rattle.page.proofs.seal.Goals as goal
-use Rattle.page.proofs.seal.Goals.{After-sealed_text-y, In_ok-lengths, Else-out-text, Else-over_limit}
+use Rattle.page.proofs.seal.Goals.{After-sealed_text-y, In_ok-lengths, Else-out-text}
 
 -- ---- the lengths
 
-key_and_iv : (c : In_ok-lengths) → let a = c.args in (length a.key.now ≡ 32) × (length a.iv.now ≡ 16)
-key_and_iv c = let a = c.args in lengths_right a.key.now a.iv.now (sym c.in_ok-lengths.ensures)
+key_and_iv : (c : In_ok-lengths) → (length c.args.key.now ≡ 32) × (length c.args.iv.now ≡ 16)
+key_and_iv c = lengths_right _ _ (sym c.in_ok-lengths.ensures)
 
-key_long : (c : Else-out-text) → length c.args.key.now ≡ 32
-key_long c =
-    let key_and_iv : let a = c.args in (length a.key.now ≡ 32) × (length a.iv.now ≡ 16) = let a = c.args in lengths_right a.key.now a.iv.now (sym c.in_ok-lengths.ensures) in key_and_iv.0
-
-iv_long : (c : Else-out-text) → length c.args.iv.now ≡ 16
-iv_long c =
-    let key_and_iv : let a = c.args in (length a.key.now ≡ 32) × (length a.iv.now ≡ 16) = let a = c.args in lengths_right a.key.now a.iv.now (sym c.in_ok-lengths.ensures) in key_and_iv.1
-
-limits : (c : Else-over_limit) → let a = c.args in (length a.ad.now ≤ most_data) × (length a.text.now ≤ most_text)
-limits c = let a = c.args in within a.ad.now a.text.now (sym c.over_limit.ensures ∙ c.if-over_limit.false)
-
-ad_fits : (c : Else-out-text) → length c.args.ad.now ≤ most_data
-ad_fits c =
-    let limits : let a = c.args in (length a.ad.now ≤ most_data) × (length a.text.now ≤ most_text) = let a = c.args in within a.ad.now a.text.now (sym c.over_limit.ensures ∙ c.if-over_limit.false) in limits.0
-
-text_fits : (c : Else-out-text) → length c.args.text.now ≤ most_text
-text_fits c =
-    let limits : let a = c.args in (length a.ad.now ≤ most_data) × (length a.text.now ≤ most_text) = let a = c.args in within a.ad.now a.text.now (sym c.over_limit.ensures ∙ c.if-over_limit.false) in limits.1
-
-room : (c : Else-out-text) → length c.args.text.now ≤ length c.args.out.now
-room c = omega (arith, c.if-out-text.false)
+fits : (c : Else-out-text) → let a = c.args in
+    (length a.key.now ≡ 32) × (length a.iv.now ≡ 16) × (length a.ad.now ≤ most_data) × (length a.text.now ≤ most_text) × (length a.text.now ≤ length a.out.now)
+fits c =
+    let n = lengths_right _ _ (sym c.in_ok-lengths.ensures) in
+    let l = within c.args.ad.now c.args.text.now (sym c.over_limit.ensures ∙ c.if-over_limit.false) in
+    (n.0, n.1, l.0, l.1, omega (arith, c.if-out-text.false))
 
 -- ---- refused
 
@@ -80,27 +65,13 @@ returns-then-out-text c =
 -- ---- the pass
 
 pub session_of-s-requires : goal.session_of-s-requires
-session_of-s-requires c =
-    (key_long (goal.at.session_of-s-requires c).Else-out-text, iv_long (goal.at.session_of-s-requires c).Else-out-text, ad_fits (goal.at.session_of-s-requires c).Else-out-text, c.table-rounds.ensures, refl)
+session_of-s-requires c = let f = fits (goal.at.session_of-s-requires c).Else-out-text in (f.0, f.1, f.2, c.table-rounds.ensures, refl)
 
-pub sealed_text-y-requires : goal.sealed_text-y-requires
-sealed_text-y-requires c =
-    (room (goal.at.sealed_text-y-requires c).Else-out-text, record { of_rounds = c.table-rounds.ensures; of_h = c.session_of-s.ensures.table })
-
--- key and IV are bytes
-key_row : (c : Else-out-text) → Row 32 256 c.args.key.now
-key_row c = record { long = key_long c; below = known_bytes c.args.key.now c.type_inv.key }
-
-iv_row : (c : Else-out-text) → IsBlock c.args.iv.now
-iv_row c = record { long = iv_long c; below = known_bytes c.args.iv.now c.type_inv.iv }
-
--- after every block, and so after all of them
-done : (c : After-sealed_text-y) → let a = c.args in
-    SoFar (page_pass a.key.now a.iv.now a.ad.now a.text.now a.out.now) (0 + ceil16 (length a.text.now)) c.sealed_text-y.new.out (bytes_of_element c.sealed_text-y.result)
+-- after every block, and so after all of them; key and IV are bytes
+done : (c : After-sealed_text-y) → let a = c.args in Row 32 256 a.key.now → IsBlock a.iv.now
+    → SoFar (page_pass a.key.now a.iv.now a.ad.now a.text.now a.out.now) (0 + ceil16 (length a.text.now)) c.sealed_text-y.new.out (bytes_of_element c.sealed_text-y.result)
 unfolding session_for encrypted
-done c =
-    let key_row : Row 32 256 c.args.key.now = let key_long : length c.args.key.now ≡ 32 = let key_and_iv : let a = c.args in (length a.key.now ≡ 32) × (length a.iv.now ≡ 16) = let a = c.args in lengths_right a.key.now a.iv.now (sym c.in_ok-lengths.ensures) in key_and_iv.0 in record { long = key_long; below = known_bytes c.args.key.now c.shared_slice_known-1.given } in
-    let iv_row : IsBlock c.args.iv.now = let iv_long : length c.args.iv.now ≡ 16 = let key_and_iv : let a = c.args in (length a.key.now ≡ 32) × (length a.iv.now ≡ 16) = let a = c.args in lengths_right a.key.now a.iv.now (sym c.in_ok-lengths.ensures) in key_and_iv.1 in record { long = iv_long; below = known_bytes c.args.iv.now c.shared_slice_known-2-1.given } in
+done c key_row iv_row =
     let a = c.args in
     let n = ceil16 (length a.text.now) in
     let p = one_pass a.key.now a.iv.now a.ad.now a.text.now a.out.now key_row iv_row in
@@ -117,12 +88,12 @@ returns c =
     let d = a.ad.now in
     let t = a.text.now in
     let out = a.out.now in
-    let end = pass_ends a.key.now a.iv.now (key_row (goal.at.returns c).Else-out-text) (iv_row (goal.at.returns c).Else-out-text) a.ad.now a.text.now a.out.now _ _ (room (goal.at.returns c).Else-out-text) (done (goal.at.returns c).After-sealed_text-y) in record {
-      answer = sym (seal_accepted key iv d (key_long (goal.at.returns c).Else-out-text) (iv_long (goal.at.returns c).Else-out-text) (ad_fits (goal.at.returns c).Else-out-text) t out (text_fits (goal.at.returns c).Else-out-text) (room (goal.at.returns c).Else-out-text));
+    let f = fits (goal.at.returns c).Else-out-text in
+    let key_row : Row 32 256 key = record { long = f.0; below = known_bytes key c.type_inv.key } in
+    let iv_row : IsBlock iv = record { long = f.1; below = known_bytes iv c.type_inv.iv } in
+    let end = pass_ends key iv key_row iv_row d t out _ _ f.4 (done (goal.at.returns c).After-sealed_text-y key_row iv_row) in record {
+      answer = sym (seal_accepted key iv d f.0 f.1 f.2 t out f.3 f.4);
       tag = c.to_bytes.ensures ∙ c.tag_from-t.ensures ∙ ap (λ (s : Session). xors (eat s.h (bytes_of_element c.sealed_text-y.result) (lengths s.ad (length t))) s.pad) c.session_of-s.ensures.session ∙ end.1
-          ∙ sym (seal_gives key iv d (key_long (goal.at.returns c).Else-out-text) (iv_long (goal.at.returns c).Else-out-text) (ad_fits (goal.at.returns c).Else-out-text) t out (text_fits (goal.at.returns c).Else-out-text) (room (goal.at.returns c).Else-out-text));
-      out = end.0 ∙ sym (seal_writes key iv d (key_long (goal.at.returns c).Else-out-text) (iv_long (goal.at.returns c).Else-out-text) (ad_fits (goal.at.returns c).Else-out-text) t out (text_fits (goal.at.returns c).Else-out-text) (room (goal.at.returns c).Else-out-text));
+          ∙ sym (seal_gives key iv d f.0 f.1 f.2 t out f.3 f.4);
+      out = end.0 ∙ sym (seal_writes key iv d f.0 f.1 f.2 t out f.3 f.4);
     }
-
-pub tag_from-t-requires : goal.tag_from-t-requires
-tag_from-t-requires c = c.session_of-s.ensures.table

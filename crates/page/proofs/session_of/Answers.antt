@@ -40,9 +40,3 @@ returns c =
       session = closed ∙ session_is a.key.now a.iv.now (taking_text a.ad.now []);
       table = lent a.key.now a.iv.now (taking_data []) (taking_text a.ad.now []) _ _ _ (begun (goal.at.returns c).After-unwrap-begun) closed c.fill.ensures;
     }
-
-pub begin_with-requires : goal.begin_with-requires
-begin_with-requires c = c.requires.3
-
-pub fill-requires : goal.fill-requires
-fill-requires c = c.requires.4

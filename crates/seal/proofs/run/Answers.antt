@@ -5,4 +5,4 @@ use Rattle.seal.proofs.run.Goals as goal
 
 pub returns : goal.returns
 returns g c =
-    whole _ _ _ _ _ _ _ _ (search rules) c.in-Read.ensures.took c.answer-k.ensures c.in_ok-write_all-2.ensures.bytes
+    whole _ _ _ _ _ _ _ _ _ (search rules) c.in-Ok.ensures.took c.answer-k.ensures c.in_ok-write_all-2.ensures.bytes
