@@ -23,7 +23,6 @@ use Rattle.scheduler.specs.Calls.{newcomer, join_call, join_number}
 use Rattle.scheduler.specs.Bytes.{stay_bytes, stays_in, how_many, scheduler_in, Leaves, join_answer}
 use Rattle.scheduler.proofs.Looking.{joins_refused, join_torn, join_whole, join_key, join_iv, join_no_text, join_over, join_full, join_present, join_right}
 use Rattle.scheduler.proofs.Serving.{joining}
-use borrow.Author.Rules.{rules}
 use Rattle.scheduler.proofs.join.Goals as goal
 
 pub returns-then-scheduler-ne-SCHEDULER_BYTES : goal.returns-then-scheduler-ne-SCHEDULER_BYTES
@@ -88,11 +87,6 @@ returns-in_err-fresh c =
     let a = c.args in
     let e = c.in_err-fresh.field-0.0 in
     absurd (Refused.refused e (c.in_err-fresh.ensures ∙ begins a.key.now a.iv.now c.if-key-ne32.false c.if-iv-ne16.false))
-
-pub put_head-requires : goal.put_head-requires
-put_head-requires c =
-    let l : length c.put_stay.new.s ≡ length c.args.scheduler.now = search rules in
-    l ∙ c.if-scheduler-ne-SCHEDULER_BYTES.false
 
 -- an accepted joining
 accepts : (b key iv : List ℕ) (n : ℕ) → length b ≡ 8208 → 0 ≡ join_answer b key iv n → (x : Stay) → x ≡ newcomer (scheduler_in b) key iv n → {b2 : List ℕ}
