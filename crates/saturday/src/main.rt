@@ -38,6 +38,7 @@ fn afterwards(rt: &impl Print, s: [u8; 8208], rests: [u8; 256]) -> io::Result<()
 fn main(rt: HostRuntime) -> io::Result<()> {
     let mut s = [0xa5u8; 8208];
     let mut rests = [0u8; 256];
+    // Not refused: the buffer has room.
     let _ = scheduler::empty(&mut s);
     calls::calls(&rt, &mut s, &mut rests, b"nt")?;
     joins::refused(&rt, &mut s)?;
