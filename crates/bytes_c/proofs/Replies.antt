@@ -1,5 +1,5 @@
 -- Answers that are bytes or a refusal: the number, then the buffer's room; and a date's bytes as one number's.
-use mathlib.Core.Path.{◌≡◌, refl, ap, ◌∙◌}
+use mathlib.Core.Path.{◌≡◌, refl}
 use mathlib.Core.List.{List}
 use Prim.Native.Nat.{ℕ, ◌+◌, ◌*◌, ◌<◌}
 use native.Mathlib.Omega.{arith}
@@ -24,12 +24,6 @@ module _ (out : List ℕ) {a : Reply} where
       → r ≡ room k out 0 → after ≡ buffer_after (room k out 0) k v out → (r ≡ reply_answer a out) × (after ≡ reply_writes a out)
   unfolding reply_answer reply_writes
   reply_bytes k v l e er eo = rw (e, l) (er, eo)
-
-  -- four bytes that a date has
-  pub reply_date : (d : Date) (n : ℕ) → little 4 n ≡ date_bytes d → a ≡ bytes (date_bytes d) → {r : ℕ} {after : List ℕ}
-      → r ≡ room 4 out 0 → after ≡ buffer_after (room 4 out 0) 4 (little 4 n) out → (r ≡ reply_answer a out) × (after ≡ reply_writes a out)
-  reply_date d n f e er eo =
-      reply_bytes 4 (date_bytes d) (date_long d) e er (eo ∙ ap (λ (v : List ℕ). buffer_after (room 4 out 0) 4 v out) f)
 
 -- a date's four bytes are those of one number
 pub date_little : (d : Date) → d.year < 65536 → d.month < 256 → d.day < 256 → little 4 (d.year + 65536 * d.month + 16777216 * d.day) ≡ date_bytes d

@@ -3,6 +3,7 @@
 
 ghost use Rattle.std.specs.Prelude.{◌≡◌, ◌++◌, ◌+◌, ◌≤◌, length, take, drop};
 ghost use Rattle.std.proofs.lemmas.List.Edits.{sets};
+ghost use Rattle.scope.specs.Machine.{answer_number};
 ghost use Rattle.words.specs.Bytes.{little, part};
 ghost use Rattle.words.specs.Machine.{bytes_of};
 ghost use Rattle.ghash.specs.Machine.{bytes_of_element};
@@ -18,9 +19,10 @@ ghost use Rattle.bytes_c.specs.Modes.{mode_named, mode_byte};
 ghost use Rattle.bytes_c.specs.Replies.{reply_answer, reply_writes, date_bytes, date_reply};
 ghost use Rattle.bytes_c.specs.Inner.{FitsBytes};
 
-use calendar::{Date, Dated};
+use calendar::Date;
 use cipher::State;
 use ghash::Element;
+use scope::Refusal;
 use session::Session;
 use start::Mode;
 use words::Block;
@@ -164,15 +166,16 @@ pub fn mode_number(mode: Mode) -> u8
 // ---- answers that are bytes, and dates
 
 // The k low bytes of n, low byte first, to the front of a buffer. Refused: 4.
-pub fn reply(out: &mut [u8], k: usize, n: u64) -> u64
-    ensures answer { result ≡ room k out.old 0 }
+#[tactic(auto, using(words::proofs::Bytes::little_long, words::proofs::Writing::put_front))]
+pub fn reply(out: &mut [u8], k: usize, n: u64) -> Result<(), Refusal>
+    ensures answer { answer_number result ≡ room k out.old 0 }
     ensures out { out.new ≡ buffer_after (room k out.old 0) k (little k n) out.old }
 {
     if out.len() < k {
-        return scope::SHORT_OUTPUT;
+        return Err(Refusal::ShortOutput);
     }
     fields::put(out, 0, k, n);
-    scope::ACCEPTED
+    Ok(())
 }
 
 // The number whose four low bytes are a date's.
@@ -184,13 +187,12 @@ fn date_number(d: Date) -> u64
 }
 
 // A date's four bytes to the front of a buffer. Refused: what the answer refuses, 4.
-pub fn reply_date(t: Dated, out: &mut [u8]) -> u64
+#[tactic(auto, using(crate::proofs::Replies::date_long), unfolding(crate::specs::Replies::reply_answer, crate::specs::Replies::reply_writes))]
+pub fn reply_date(t: Result<Date, Refusal>, out: &mut [u8]) -> Result<(), Refusal>
     requires { FitsBytes (dated_of t) }
-    ensures answer { result ≡ reply_answer (date_reply (dated_of t)) out.old }
+    ensures answer { answer_number result ≡ reply_answer (date_reply (dated_of t)) out.old }
     ensures out { out.new ≡ reply_writes (date_reply (dated_of t)) out.old }
 {
-    match t {
-        Dated::Refused(n) => n,
-        Dated::Found(d) => reply(out, DATE_BYTES, date_number(d)),
-    }
+    let d = t?;
+    reply(out, DATE_BYTES, date_number(d))
 }

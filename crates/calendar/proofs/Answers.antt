@@ -1,24 +1,16 @@
 -- An answer that is a date for a day up to the last and 12 for any other, whatever the date is: `to_date` of the calendar, and `kept_until` of retention.
-use mathlib.Core.Path.{◌≡◌, refl, sym, ap, subst, ◌∙◌}
+use mathlib.Core.Path.{◌≡◌, refl}
 use mathlib.Core.Bool.{Bool, true, false}
 use Prim.Native.Nat.{ℕ, ◌≤◌, ◌<◌}
 use lib.Dec.{ltb}
 use borrow.Author.Tests.{lt-ltb, le-ltb, ltb-true, ltb-false}
 use Rattle.scope.specs.Limits.{last_day}
 use Rattle.scope.specs.Refusals.{pick, day_range}
-use Rattle.calendar.specs.Calendar.{Date, date}
+use Rattle.calendar.specs.Calendar.{Date}
 use Rattle.calendar.specs.Calls.{Dated, Dated.dated, Dated.refused}
 
 abbrev pub answer : (ℕ → Date) → (day : ℕ) → Dated
 answer f n = pick (ltb last_day n) (refused day_range) (dated (f n))
-
-abbrev the_date : Dated → Date
-the_date (dated d) = d
-the_date (refused n) = date 0 0 0
-
-abbrev IsDated : Dated → Type 0
-IsDated (dated d) = Unit
-IsDated (refused n) = ⊥
 
 module _ (f : ℕ → Date) (n : ℕ) where
   pub given : n ≤ last_day → answer f n ≡ dated (f n)
@@ -32,8 +24,8 @@ module _ (f : ℕ → Date) (n : ℕ) where
     given_day = go (ltb last_day n) refl
       where
         go : (b : Bool) → ltb last_day n ≡ b → n ≤ last_day
-        go true h = absurd (subst IsDated (sym e ∙ not_given (ltb-true last_day n h)) tt)
+        go true h = let q = not_given (ltb-true last_day n h) in absurd (cc (e, q))
         go false h = ltb-false last_day n h
 
     pub given_is : f n ≡ d
-    given_is = ap the_date (sym (given given_day) ∙ e)
+    given_is = let q = given given_day in cc

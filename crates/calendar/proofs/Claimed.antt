@@ -77,15 +77,6 @@ pub unnumbered : (d : Date) → has_day d ≡ false → to_day d ≡ Numbered.re
 unfolding to_day
 unnumbered d h = rw h
 
--- an answer's value, and that it is no refusal
-abbrev the_day : Numbered → ℕ
-the_day (numbered n) = n
-the_day (Numbered.refused n) = 0
-
-abbrev IsNumbered : Numbered → Type 0
-IsNumbered (numbered n) = Unit
-IsNumbered (Numbered.refused n) = ⊥
-
 -- what a day that has a date is
 module _ (n : ℕ) (d : Date) (e : to_date n ≡ dated d) where
   dated_day : n ≤ last_day
@@ -114,9 +105,10 @@ module _ (d : Date) where
     where
       go : (b : Bool) → has_day d ≡ b → to_date n ≡ dated d
       go true h =
-          let q : day_of d ≡ n = ap the_day (sym (to_day_is d h) ∙ e) in
+          let f = to_day_is d h in
+          let q : day_of d ≡ n = cc (e, f) in
           subst (λ (k : ℕ). to_date k ≡ dated d) q (back_by h)
-      go false h = absurd (subst IsNumbered (sym e ∙ unnumbered d h) tt)
+      go false h = let f = unnumbered d h in absurd (cc (e, f))
 
   refused_by : ((n : ℕ) → to_date n ≡ dated d → ⊥) → to_day d ≡ Numbered.refused day_range
   refused_by f = go (has_day d) refl
@@ -126,7 +118,7 @@ module _ (d : Date) where
       go false h = unnumbered d h
 
   refuses : to_day d ≡ Numbered.refused day_range → (n : ℕ) → to_date n ≡ dated d → ⊥
-  refuses e n h = subst IsNumbered (sym (forth n d h) ∙ e) tt
+  refuses e n h = let f = forth n d h in cc
 
 order_of : (m n : ℕ) → on_or_before (date_on m) (date_on n) ≡ leb m n
 order_of m n = dates.order (date_on m) (date_on n) (real_of m) (real_of n) ∙ ap₂ leb (day_of_date m) (day_of_date n)

@@ -1,16 +1,15 @@
--- What the code computes: the length of a month, whether a date is refused, and the date of a day, whose year, month and day are quotients and what is left over.
+-- What the code computes: the length of a month, and the date of a day, whose year, month and day are quotients and what is left over.
 use mathlib.Core.Path.{◌≡◌, refl, sym, ap, ap₂, subst, ◌∙◌}
-use mathlib.Core.Bool.{Bool, true, false, ◌&&◌, ◌||◌}
+use mathlib.Core.Bool.{Bool, true, false, ◌||◌}
 use Prim.Native.Nat.{ℕ, suc, ◌+◌, ◌-◌, ◌*◌, ◌/◌, ◌%◌, ◌≤◌, ◌<◌}
 use native.Mathlib.Omega.{arith}
-use lib.Dec.{T, leb, ltb, eqb, eqb→eq}
+use lib.Dec.{T, ltb, eqb, eqb→eq}
 use lib.ListN.{get_or}
-use borrow.Author.Tests.{le-leb, lt-leb, ltb-true, ltb-false, eqb-true, eqb-false, ne_eqb}
-use Rattle.scope.specs.Limits.{first_year, last_year, last_day}
+use borrow.Author.Tests.{ltb-true, ltb-false, eqb-true, eqb-false, ne_eqb}
+use Rattle.scope.specs.Limits.{first_year, last_day}
 use Rattle.scope.specs.Refusals.{pick}
 use Rattle.words.proofs.Tests.{below}
-use Rattle.calendar.specs.Calendar.{leap, month_lengths, month_length, Date, date, on_calendar, date_on, days_of_months, day_of}
-use Rattle.calendar.specs.Calls.{has_day}
+use Rattle.calendar.specs.Calendar.{leap, month_lengths, month_length, Date, date, date_on, days_of_months, day_of}
 use Rattle.calendar.specs.Inner.{to_march, from_march, march_day}
 use Rattle.calendar.proofs.Counting.{months_next}
 use Rattle.calendar.proofs.Dates.{Real, date_of_day}
@@ -36,21 +35,6 @@ module _ (y m : ℕ) where
       subst (λ (b : Bool). T (b || eqb (30 + (suc (m - 1) + suc (m - 1) / 8) % 2) (get_or (month_lengths (leap y)) (m - 1) 0))) a (by_turns (leap y) (m - 1) (omega arith)) in
       let e : 30 + (suc (m - 1) + suc (m - 1) / 8) % 2 ≡ get_or (month_lengths (leap y)) (m - 1) 0 = eqb→eq (30 + (suc (m - 1) + suc (m - 1) / 8) % 2) (get_or (month_lengths (leap y)) (m - 1) 0) t in
       ap (λ (i : ℕ). 30 + (i + i / 8) % 2) (sym f) ∙ e
-
--- ---- whether a date is refused
-
-module _ (y m d : ℕ) where
-  pub month_0 : m < 1 → false ≡ has_day (date y m d)
-  unfolding has_day on_calendar
-  month_0 h = rw (lt-leb 1 m h)
-
-  pub month_13 : 1 ≤ m → 12 < m → false ≡ has_day (date y m d)
-  unfolding has_day on_calendar
-  month_13 h k = rw (le-leb 1 m h, lt-leb m 12 k)
-
-  pub within : 1 ≤ m → m ≤ 12 → ((leb 1 d && leb d (month_length y m)) && leb first_year y) && leb y last_year ≡ has_day (date y m d)
-  unfolding has_day on_calendar
-  within h k = rw (le-leb 1 m h, le-leb m 12 k)
 
 -- ---- the date of a day
 

@@ -8,32 +8,32 @@ ghost use Rattle.calendar.specs.Calls;
 ghost use Rattle.calendar.specs.Inner.{to_march, from_march, march_day};
 ghost use Rattle.calendar.specs.Machine.{date_of, dated_of, numbered_of};
 
-#[derive(Clone, Copy)]
+use scope::Refusal;
+use std::fmt;
+
+// Dates are ordered by the year, then by the month, then by the day, as the fields stand.
+#[derive(Clone, Copy, Debug, PartialEq, Eq, PartialOrd, Ord)]
 pub struct Date {
     pub year: u64,
     pub month: u64,
     pub day: u64,
 }
 
-#[derive(Clone, Copy)]
-pub enum Dated {
-    Found(Date),
-    Refused(u64),
+impl fmt::Display for Date {
+    fn fmt<W: fmt::Write>(&self, f: &mut fmt::Formatter<W>) -> fmt::Result {
+        write!(f, "{}-{:02}-{:02}", self.year, self.month, self.day)
+    }
 }
 
-#[derive(Clone, Copy)]
-pub enum Numbered {
-    Found(u64),
-    Refused(u64),
-}
-
+#[tactic(auto, unfolding(crate::specs::Calendar::leap))]
 fn leap(year: u64) -> bool
     ensures { result ≡ Calendar.leap year }
 {
-    ((year % 4 == 0) & (year % 100 != 0)) | (year % 400 == 0)
+    (year % 4 == 0 && year % 100 != 0) || year % 400 == 0
 }
 
 // How many days a month has, months counted from 1.
+#[tactic(auto, using(crate::proofs::Formulas::february, crate::proofs::Formulas::other_month))]
 pub fn month_length(year: u64, month: u64) -> u64
     requires { (1 ≤ month) × (month ≤ 12) }
     ensures { result ≡ Calendar.month_length year month }
@@ -49,27 +49,24 @@ pub fn month_length(year: u64, month: u64) -> u64
 }
 
 // Whether a date is one of the calendar and of the years from 2000 to 2199.
+#[tactic(auto, unfolding(crate::specs::Calls::has_day, crate::specs::Calendar::on_calendar))]
 fn has_day(year: u64, month: u64, day: u64) -> bool
     ensures { result ≡ Calls.has_day (Calendar.date year month day) }
 {
-    if month < 1 {
-        return false;
-    }
-    if month > 12 {
-        return false;
-    }
-    (1 <= day)
-        & (day <= month_length(year, month))
-        & (scope::FIRST_YEAR <= year)
-        & (year <= scope::LAST_YEAR)
+    1 <= month
+        && month <= 12
+        && 1 <= day
+        && day <= month_length(year, month)
+        && scope::FIRST_YEAR <= year
+        && year <= scope::LAST_YEAR
 }
 
 // Whether a date is another or before it.
+#[tactic(auto, unfolding(crate::specs::Calendar::on_or_before))]
 pub fn on_or_before(d: Date, e: Date) -> bool
     ensures { result ≡ Calendar.on_or_before (date_of d) (date_of e) }
 {
-    (d.year < e.year)
-        | ((d.year == e.year) & ((d.month < e.month) | ((d.month == e.month) & (d.day <= e.day))))
+    d <= e
 }
 
 // ---- years that begin with March
@@ -85,6 +82,7 @@ const FROM_MARCH: u64 = 306;
 const MARCH_2100: u64 = 36584;
 
 // A day's number in that count.
+#[tactic(auto, unfolding(crate::specs::Inner::to_march))]
 fn to_march(day: u64) -> u64
     requires { day ≤ last_day }
     ensures { result ≡ to_march day }
@@ -96,6 +94,7 @@ fn to_march(day: u64) -> u64
 }
 
 // And the day of a number.
+#[tactic(auto, unfolding(crate::specs::Inner::from_march))]
 fn from_march(n: u64) -> u64
     requires { 306 ≤ n }
     ensures { result ≡ from_march n }
@@ -167,22 +166,23 @@ fn day_of(year: u64, month: u64, day: u64) -> u64
 }
 
 // The date of a day. Refused: 12 for a day after 73,048.
-pub fn to_date(day: u64) -> Dated
+#[tactic(auto, unfolding(crate::specs::Calls::to_date))]
+pub fn to_date(day: u64) -> Result<Date, Refusal>
     ensures { dated_of result ≡ Calls.to_date day }
 {
     if day > scope::LAST_DAY {
-        return Dated::Refused(scope::DAY_RANGE);
+        return Err(Refusal::DayRange);
     }
-    let d = date_of(day);
-    Dated::Found(d)
+    Ok(date_of(day))
 }
 
 // The day of a date. Refused: 12 for one that the calendar lacks or outside the years 2000 to 2199.
-pub fn to_day(year: u64, month: u64, day: u64) -> Numbered
+#[tactic(auto, unfolding(crate::specs::Calls::to_day))]
+pub fn to_day(year: u64, month: u64, day: u64) -> Result<u64, Refusal>
     ensures { numbered_of result ≡ Calls.to_day (Calendar.date year month day) }
 {
     if has_day(year, month, day) {
-        return Numbered::Found(day_of(year, month, day));
+        return Ok(day_of(year, month, day));
     }
-    Numbered::Refused(scope::DAY_RANGE)
+    Err(Refusal::DayRange)
 }

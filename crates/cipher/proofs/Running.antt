@@ -1,18 +1,25 @@
 -- What the loop of a run has made after i turns, and the answers of a run.
-use mathlib.Core.Path.{◌≡◌, refl, sym, ap, subst, ◌∙◌}
-use mathlib.Core.Bool.{Bool, true, false}
-use mathlib.Core.List.{List, [], ◌++◌}
+use Rattle.std.specs.Prelude.{Result, Ok, Err}
+use mathlib.Core.Path.{◌≡◌, refl, sym, ap, ◌∙◌}
+use mathlib.Core.Bool.{Bool, false}
+use mathlib.Core.List.{List, ◌++◌}
 use Prim.Native.Nat.{ℕ, ◌+◌, ◌*◌, ◌≤◌, ◌<◌, zero-le}
 use native.Mathlib.Omega.{arith}
 use lib.Dec.{eqb, ltb}
 use lib.ListN.{length, drop}
 use lib.Seq.{sets, length-sets}
-use borrow.Author.Tests.{lt-ltb, le-ltb, ltb-false, ne_eqb}
+use borrow.Author.Tests.{lt-ltb, le-ltb, ne_eqb}
 use Rattle.scope.specs.Refusals.{pick, granted, refuse}
+use Rattle.scope.specs.declared.Refusal.{Refusal}
+use Rattle.scope.specs.declared.Refusal.TheVariants.{ShortOutput}
+use Rattle.scope.specs.Machine.{refusal_number, answer_number}
+use Rattle.scope.proofs.Refused.{refused}
 use Rattle.words.proofs.Writing.{put_next, put_front}
 use Rattle.cipher.specs.Registers.{Registers, IsRegisters}
 use Rattle.cipher.specs.Run.{move, made, moves, zs, blocks}
-use Rattle.cipher.specs.State.{State, moved, too_far, past_start, steps_number, run_number, run_state, run_part}
+use Rattle.cipher.specs.State.{moved, steps_number, run_number, run_state, run_part}
+use Rattle.cipher.specs.declared.State as machine
+use Rattle.cipher.specs.Machine.{registers_of, state_of, state_after}
 use Rattle.cipher.proofs.Counting.{run_after}
 use Rattle.cipher.proofs.Moves.{moves_add, blocks_add, blocks_one, blocks_length}
 
@@ -54,62 +61,46 @@ module _ (d : Bool) (s : Registers) (g : IsRegisters s) (xs : List ℕ) (from n 
       let e : i ≡ n = omega (arith, m.at_most) in
       (m.state ∙ ap (λ (k : ℕ). moves d k s) e, m.written ∙ ap (λ (k : ℕ). sets xs from (blocks d k s)) e)
 
--- the four things that a run promises: state, bytes written, answer, output
-abbrev pub Answered : Bool → State → List ℕ → ℕ → State → ℕ → ℕ → List ℕ → Type 0
-Answered d s xs n t k w out =
-    (t ≡ run_state d s (length xs) n) × ((k ≡ length (run_part d s (length xs) n)) × ((w ≡ run_number d s.count (length xs) n)
-    × (out ≡ run_part d s (length xs) n ++ drop k xs)))
+-- what a run promises: number, state, bytes written, output
+pub record Answered (d : Bool) (s : machine.State) (xs : List ℕ) (n : ℕ) (r : Result machine.State Refusal) (out : List ℕ) : Type 0 where
+  pub answer : answer_number r ≡ run_number d s.count (length xs) n
+  pub state : state_after s r ≡ run_state d (state_of s) (length xs) n
+  pub wrote : granted (answer_number r) (16 * n) 0 ≡ length (run_part d (state_of s) (length xs) n)
+  pub written : out ≡ run_part d (state_of s) (length xs) n ++ drop (length (run_part d (state_of s) (length xs) n)) xs
 
-module _ (d : Bool) (s : State) (xs : List ℕ) (n : ℕ) where
+module _ (d : Bool) (s : machine.State) (xs : List ℕ) (n : ℕ) where
   abbrev number : ℕ
   number = run_number d s.count (length xs) n
 
-  answered : (a : ℕ) → eqb a 0 ≡ false → number ≡ a → Answered d s xs n s 0 a xs
-  unfolding run_state run_part
-  answered a f e =
-      subst (λ (t : Bool). (s ≡ pick t (moved d n s) s) × ((0 ≡ length (pick t (blocks d n s.registers) [])) × ((a ≡ number) × (xs ≡ pick t (blocks d n s.registers) [] ++ xs))))
-      (sym (ap (λ (b : ℕ). eqb b 0) e ∙ f)) (refl, (refl, (sym e, refl)))
-
   -- what a refused run leaves
-  module _ {t : State} {w : ℕ} (state : t ≡ s) (wrote : w ≡ 0) where
-    refused : (a : ℕ) → eqb a 0 ≡ false → number ≡ a → Answered d s xs n t w a xs
-    refused a f e =
-        subst (λ (u : State). Answered d s xs n u w a xs) (sym state) (subst (λ (k : ℕ). Answered d s xs n s k a xs) (sym wrote) (answered a f e))
+  left : (e : Refusal) → refusal_number e ≡ number → Answered d s xs n (Err e) xs
+  unfolding run_state run_part
+  left e h =
+      let f : eqb number 0 ≡ false = ne_eqb number 0 (λ z. refused e (h ∙ z)) in
+      let g : eqb (refusal_number e) 0 ≡ false = ne_eqb (refusal_number e) 0 (refused e) in
+      record { answer = h; state = rw f refl; wrote = rw (g, f) refl; written = rw f refl }
 
-    pub not_counted : (a : ℕ) → a ≡ steps_number d n s.count → ¬ (a ≡ 0) → Answered d s xs n t w a xs
-    not_counted a e h =
-        refused a (ne_eqb a 0 h) (run_after d s.count (length xs) n ∙ ap (λ (m : ℕ). granted m (refuse (ltb (length xs) (16 * n)) 4 0) m) (sym e)
-        ∙ ap (λ (b : Bool). pick b (refuse (ltb (length xs) (16 * n)) 4 0) a) (ne_eqb a 0 h))
+  pub not_counted : (e : Refusal) → refusal_number e ≡ steps_number d n s.count → Answered d s xs n (Err e) xs
+  not_counted e h =
+      let f : eqb (steps_number d n s.count) 0 ≡ false = ne_eqb (steps_number d n s.count) 0 (λ z. refused e (h ∙ z)) in
+      left e (h ∙ sym (run_after d s.count (length xs) n ∙ ap (λ (b : Bool). pick b (refuse (ltb (length xs) (16 * n)) 4 0) (steps_number d n s.count)) f))
 
-    pub no_room : steps_number d n s.count ≡ 0 → length xs < 16 * n → Answered d s xs n t w 4 xs
-    no_room h r = refused 4 refl (run_after d s.count (length xs) n ∙ rw (h, lt-ltb (length xs) (16 * n) r))
+  pub no_room : 0 ≡ steps_number d n s.count → length xs < 16 * n → Answered d s xs n (Err ShortOutput) xs
+  no_room h r = left ShortOutput (sym (run_after d s.count (length xs) n ∙ rw (sym h, lt-ltb (length xs) (16 * n) r) refl))
 
-  number_zero : steps_number d n s.count ≡ 0 → 16 * n ≤ length xs → number ≡ 0
-  number_zero h r = run_after d s.count (length xs) n ∙ rw (h, le-ltb (length xs) (16 * n) r)
+  number_zero : 0 ≡ steps_number d n s.count → 16 * n ≤ length xs → number ≡ 0
+  number_zero h r = run_after d s.count (length xs) n ∙ rw (sym h, le-ltb (length xs) (16 * n) r) refl
 
-  pub accepted : IsRegisters s.registers → steps_number d n s.count ≡ 0 → 16 * n ≤ length xs → (t : State) (out : List ℕ)
-      → t ≡ moved d n s → out ≡ sets xs 0 (blocks d n s.registers) → Answered d s xs n t (16 * n) 0 out
+  pub accepted : IsRegisters (registers_of s.registers) → 0 ≡ steps_number d n s.count → 16 * n ≤ length xs → (t : machine.State) (out : List ℕ)
+      → state_of t ≡ moved d n (state_of s) → out ≡ sets xs 0 (blocks d n (registers_of s.registers)) → Answered d s xs n (Ok t) out
   unfolding run_state run_part
   accepted g h r t out et eo =
+      let b = blocks d n (registers_of s.registers) in
       let e = number_zero h r in
-      let l = blocks_length d n s.registers g in
-      subst (λ (b : Bool). (t ≡ pick b (moved d n s) s) × ((16 * n ≡ length (pick b (blocks d n s.registers) [])) × ((0 ≡ number) × (out ≡ pick b (blocks d n s.registers) [] ++ drop (16 * n) xs))))
-      (sym (ap (λ (a : ℕ). eqb a 0) e)) (et, (sym l, (sym e, eo ∙ put_front xs (blocks d n s.registers) (16 * n) l r)))
-
-  -- of an output no longer than the blocks the part is all or nothing
-  abbrev AllOrNone : List ℕ → Type 0
-  AllOrNone part = (length part ≤ length xs) × (length part < length xs → length part ≡ 0)
-
-  pub all_or_none : IsRegisters s.registers → length xs ≤ 16 * n → AllOrNone (run_part d s (length xs) n)
-  unfolding run_part run_number
-  all_or_none g h = go (too_far d n s.count) (past_start d n s.count) (ltb (length xs) (16 * n)) (λ e. ltb-false (length xs) (16 * n) e)
-    where
-      go : (far before short : Bool) → (short ≡ false → 16 * n ≤ length xs)
-          → AllOrNone (granted (refuse far 9 (refuse before 15 (refuse short 4 0))) (blocks d n s.registers) [])
-      go true before short f = (zero-le, λ _. refl)
-      go false true short f = (zero-le, λ _. refl)
-      go false false true f = (zero-le, λ _. refl)
-      go false false false f =
-          let k : length (blocks d n s.registers) ≡ 16 * n = blocks_length d n s.registers g in
-          let m : 16 * n ≤ length xs = f refl in
-          (omega arith, λ l. absurd (omega arith))
+      let l : length b ≡ 16 * n = blocks_length d n (registers_of s.registers) g in
+      record {
+        answer = sym e;
+        state = rw e et;
+        wrote = rw e (sym l);
+        written = rw e (eo ∙ put_front xs b (length b) refl (omega (arith, l)));
+      }

@@ -1,10 +1,18 @@
 -- What a step that is refused leaves, and one that is not; and n steps with one more behind them.
-use mathlib.Core.Path.{◌≡◌, ap, ◌∙◌}
+use Rattle.std.specs.Prelude.{Ok, Err}
+use mathlib.Core.Path.{◌≡◌, sym, ap, ◌∙◌}
 use mathlib.Core.Bool.{Bool, true, false}
 use Prim.Native.Nat.{ℕ, suc, ◌+◌}
 use native.Mathlib.Numerals.{add-one}
 use native.Mathlib.Omega.{arith}
 use borrow.Author.Tests.{eq-eqb, ne_eqb}
+use Rattle.scope.specs.declared.Refusal.{Refusal}
+use Rattle.scope.specs.Machine.{refusal_number}
+use Rattle.scope.proofs.Refused.{refused as nonzero}
+use Rattle.words.specs.Machine.{bytes_of}
+use Rattle.cipher.specs.declared.State as machine
+use Rattle.cipher.specs.declared.Stepped.{Stepped}
+use Rattle.cipher.specs.Machine.{registers_of, state_of, Steps}
 use Rattle.cipher.specs.Run.{move, made, moves}
 use Rattle.cipher.proofs.Moves.{moves_add}
 use Rattle.cipher.specs.State.{State, Drawn.block, Drawn.refused, counted, moved, step_number, step_state, step_answer}
@@ -32,6 +40,18 @@ module _ (d : Bool) (s : State) where
 pub moved_one : (d : Bool) (s t : State) → t.registers ≡ move d s.registers → t.count ≡ counted d 1 s.count → t ≡ moved d 1 s
 unfolding moves
 moved_one d s t er ec = λ i. record { registers = er i; count = ec i }
+
+-- ---- the answers of a step of the code
+
+module _ (d : Bool) (s : machine.State) where
+  pub step_refused : (e : Refusal) → refusal_number e ≡ step_number d (state_of s) → Steps d s (Err e)
+  step_refused e f =
+      let h : ¬ (step_number d (state_of s) ≡ 0) = λ z. nonzero e (f ∙ z) in
+      record { state = sym (state_stays d (state_of s) h); answer = ap refused f ∙ sym (answer_refused d (state_of s) h) }
+
+  pub step_accepted : (w : Stepped) → 0 ≡ step_number d (state_of s) → state_of w.state ≡ moved d 1 (state_of s) → bytes_of w.z ≡ made d (registers_of s.registers) → Steps d s (Ok w)
+  step_accepted w f es ez =
+      record { state = es ∙ sym (state_moves d (state_of s) (sym f)); answer = ap block ez ∙ sym (answer_block d (state_of s) (sym f)) }
 
 -- ---- n steps, and one more
 

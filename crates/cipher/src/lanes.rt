@@ -25,10 +25,7 @@ use words::Block;
 pub fn at_most(left: usize) -> usize
     ensures { (result ≤ 16) × (result ≤ left) × (0 < left → 0 < result) × (result ≡ pick (ltb left 16) left 16) }
 {
-    if left < 16 {
-        return left;
-    }
-    16
+    left.min(16)
 }
 
 // Eight cells of a register at a place of a lane.
@@ -48,15 +45,13 @@ pub fn taps(l: Lfsr, t1: &mut [u16; 128], t2: &mut [u16; 128], n: usize) -> Lfsr
     ensures taps { Tapped (lfsr_of l) n t1.new t2.new }
 {
     let mut m = l;
-    let mut i: usize = 0;
-    while i < n {
+    for i in 0..n {
         let k = lfsr::clock8(m);
         let a = m.a;
         let b = m.b;
         leave(t1, 8 * i, b, 8);
         leave(t2, 8 * i, a, 0);
         m = k;
-        i += 1;
     }
     m
 }
@@ -129,8 +124,7 @@ pub fn batch(s: Registers, rounds: &[u32; 256], out: &mut [u8], from: usize, n: 
     let l = taps(old, &mut t1, &mut t2, n);
     words::store(&mut l1, 0, r1);
     words::store(&mut l2, 0, r2);
-    let mut i: usize = 0;
-    while i < n {
+    for i in 0..n {
         let at = 16 * i;
         let next = at + 16;
         let n1 = next_r1(&l2, at, r3, tap(&t2, i));
@@ -140,7 +134,6 @@ pub fn batch(s: Registers, rounds: &[u32; 256], out: &mut [u8], from: usize, n: 
         words::store(&mut l2, next, n2);
         r3 = n3;
         words::store(out, from + at, output(&l1, &l2, at, tap(&t1, i)));
-        i += 1;
     }
     moved_to(s, l, &l1, &l2, 16 * n, r3)
 }
@@ -165,12 +158,10 @@ pub fn run_forward(s: Registers, rounds: &[u32; 256], out: &mut [u8], n: usize) 
     ensures out { out.new ≡ sets out.old 0 (blocks forward n (registers_of s)) }
 {
     let mut t = s;
-    let mut i: usize = 0;
-    while i < n {
+    for i in (0..n).step_by(16) {
         let k = at_most(n - i);
         let u = batch(t, rounds, out, 16 * i, k);
         t = u;
-        i += k;
     }
     t
 }

@@ -3,6 +3,8 @@
 
 ghost use Rattle.std.specs.Prelude.{◌≡◌, [], ◌∷◌, ◌++◌, ◌*◌, ◌/◌, ◌%◌, ◌≤◌, length, take, drop};
 ghost use Rattle.std.proofs.lemmas.List.Edits.{sets};
+ghost use Rattle.scope.specs.Refusals.{granted};
+ghost use Rattle.scope.specs.Machine.{answer_number, Answers};
 ghost use Rattle.words.specs.Bytes.{little, littles};
 ghost use Rattle.words.specs.Machine.{bytes_of};
 ghost use Rattle.aes.specs.Unround.{unsub};
@@ -10,8 +12,8 @@ ghost use Rattle.aes.specs.Tables.{Holds};
 ghost use Rattle.cipher.specs.Step;
 ghost use Rattle.cipher.specs.Back;
 ghost use Rattle.cipher.specs.Run.{forward, backward, move, made, moves, blocks};
-ghost use Rattle.cipher.specs.State.{Drawn.block, Drawn.refused, counted, steps_number, step_number, step_state, step_answer, run_number, run_state, run_part};
-ghost use Rattle.cipher.specs.Machine.{registers_of, state_of, drawn_of, Moves, Steps};
+ghost use Rattle.cipher.specs.State.{Drawn.block, counted, steps_number, step_number, step_state, step_answer, run_number, run_state, run_part};
+ghost use Rattle.cipher.specs.Machine.{registers_of, state_of, state_after, drawn_of, Moves, Steps};
 ghost use Rattle.cipher.specs.Inner.{Precedes};
 ghost use Rattle.cipher.specs.Lent.{front_of};
 ghost use Rattle.std.specs.Borrow.{sem};
@@ -19,10 +21,11 @@ ghost use Rattle.std.specs.Borrow.{sem};
 pub mod lanes;
 
 use lfsr::Lfsr;
+use scope::Refusal;
 use words::Block;
 
 // The contents of A and B, R1, R2 and R3: document 01's cipher state.
-#[derive(Clone, Copy)]
+#[derive(Clone, Copy, PartialEq, Eq)]
 pub struct Registers {
     pub lfsr: Lfsr,
     pub r1: Block,
@@ -31,7 +34,7 @@ pub struct Registers {
 }
 
 // Document 02's state: the registers, and how many blocks lie between the start and them.
-#[derive(Clone, Copy)]
+#[derive(Clone, Copy, PartialEq, Eq)]
 pub struct State {
     pub registers: Registers,
     pub count: u64,
@@ -44,18 +47,11 @@ pub struct Moved {
     pub z: Block,
 }
 
-// A step's answer: its block z, or the number of the refusal.
-#[derive(Clone, Copy)]
-pub enum Drawn {
-    Z(Block),
-    Refused(u64),
-}
-
-// A step by value: the state that it leads to, or the state as it was, and the answer.
+// What a step of a state gives: the state that it leads to, and its block z.
 #[derive(Clone, Copy)]
 pub struct Stepped {
     pub state: State,
-    pub drawn: Drawn,
+    pub z: Block,
 }
 
 fn pair(lo: u16, hi: u16) -> u32
@@ -174,26 +170,26 @@ pub fn backward(s: Registers, inverse: &[u8; 256]) -> Moved
     }
 }
 
-// The number of n steps from a count: 9 for a count or an n over 65,538, and for a way forward past it; 15 for a way back past 0.
-pub fn steps_number(count: u64, n: u64, back: bool) -> u64
-    ensures { result ≡ steps_number back n count }
+// Whether n steps from a count are refused: with 9 for a count or an n over 65,538, and for a way forward past it; with 15 for a way back past 0.
+pub fn steps_allowed(count: u64, n: u64, back: bool) -> Result<(), Refusal>
+    ensures { answer_number result ≡ steps_number back n count }
 {
     if count > scope::MOST_BLOCKS {
-        return scope::COUNT_TOO_HIGH;
+        return Err(Refusal::CountTooHigh);
     }
     if n > scope::MOST_BLOCKS {
-        return scope::COUNT_TOO_HIGH;
+        return Err(Refusal::CountTooHigh);
     }
     if back {
         if count < n {
-            return scope::BEFORE_START;
+            return Err(Refusal::BeforeStart);
         }
-        return scope::ACCEPTED;
+        return Ok(());
     }
     if count + n > scope::MOST_BLOCKS {
-        return scope::COUNT_TOO_HIGH;
+        return Err(Refusal::CountTooHigh);
     }
-    scope::ACCEPTED
+    Ok(())
 }
 
 // The count after n steps that are not refused.
@@ -207,24 +203,11 @@ fn counted(count: u64, n: u64, back: bool) -> u64
     count + n
 }
 
-// A refused step: its number, and the state as it was.
-fn not_stepped(s: State, n: u64) -> Stepped
-    ensures { (state_of result.state ≡ state_of s) × (drawn_of result.drawn ≡ refused n) }
-{
-    Stepped {
-        state: s,
-        drawn: Drawn::Refused(n),
-    }
-}
-
 // One step: the state it leads to, and its z. Refused: 9 at a count of 65,538 and over.
-pub fn step_by_value(s: State) -> Stepped
+pub fn step_by_value(s: State) -> Result<Stepped, Refusal>
     ensures { Steps forward s result }
 {
-    let number = steps_number(s.count, 1, false);
-    if number != 0 {
-        return not_stepped(s, number);
-    }
+    steps_allowed(s.count, 1, false)?;
     let old = s.registers;
     let rounds = wide_round::table();
     let w = lanes::forward(old, &rounds);
@@ -234,21 +217,15 @@ pub fn step_by_value(s: State) -> Stepped
         registers: n,
         count: counted(s.count, 1, false),
     };
-    Stepped {
-        state: state,
-        drawn: Drawn::Z(z),
-    }
+    Ok(Stepped { state, z })
 }
 
 // One step back: the only state whose step leads to this one, and that step's z. Refused: 9 at a count over 65,538, 15 at 0.
-pub fn back_by_value(s: State) -> Stepped
+pub fn back_by_value(s: State) -> Result<Stepped, Refusal>
     ensures back { Steps backward s result }
-    ensures leads { step_number backward (state_of s) ≡ 0 → (step_state forward (state_of result.state) ≡ state_of s) × (step_answer forward (state_of result.state) ≡ drawn_of result.drawn) }
+    ensures leads { Answers result (step_number backward (state_of s)) (λ w. (step_state forward (state_of w.state) ≡ state_of s) × (step_answer forward (state_of w.state) ≡ block (bytes_of w.z))) }
 {
-    let number = steps_number(s.count, 1, true);
-    if number != 0 {
-        return not_stepped(s, number);
-    }
+    steps_allowed(s.count, 1, true)?;
     let old = s.registers;
     let inverse = aes::inverse_sbox();
     let w = backward(old, &inverse);
@@ -258,19 +235,16 @@ pub fn back_by_value(s: State) -> Stepped
         registers: n,
         count: counted(s.count, 1, true),
     };
-    Stepped {
-        state: state,
-        drawn: Drawn::Z(z),
-    }
+    Ok(Stepped { state, z })
 }
 
-// The state is lent, moved on one step, and z comes back; or the refusal's number, and then the state stays.
-pub fn step(s: &mut State) -> Drawn
+// The state is lent, moved on one step, and z comes back; or the refusal, and then the state stays.
+pub fn step(s: &mut State) -> Result<Block, Refusal>
     ensures { (state_of s.new ≡ step_state forward (state_of s.old)) × (drawn_of result ≡ step_answer forward (state_of s.old)) }
 {
-    let t = step_by_value(*s);
+    let t = step_by_value(*s)?;
     *s = t.state;
-    t.drawn
+    Ok(t.z)
 }
 
 // n steps back, from the front of the output on.
@@ -281,14 +255,12 @@ fn run_back(s: Registers, out: &mut [u8], n: usize) -> Registers
 {
     let inverse = aes::inverse_sbox();
     let mut t = s;
-    let mut i: usize = 0;
-    while i < n {
+    for i in 0..n {
         let w = backward(t, &inverse);
         let u = w.registers;
         let z = w.z;
         t = u;
         words::store(out, 16 * i, z);
-        i += 1;
     }
     t
 }
@@ -306,73 +278,62 @@ fn steps(s: Registers, out: &mut [u8], n: usize, back: bool) -> Registers
     lanes::run_forward(s, &rounds, out, n)
 }
 
-// The state after a run, and how many bytes of the output it wrote.
-#[derive(Clone, Copy)]
-pub struct Ran {
-    pub state: State,
-    pub wrote: usize,
-}
-
-// What a refused run leaves: the state as it was, and nothing written.
-fn refused(s: State) -> Ran
-    ensures { (result.state ≡ s) × (result.wrote ≡ 0) }
-{
-    Ran { state: s, wrote: 0 }
-}
-
 // n steps, forward or back: their blocks in the order made, at the front of the output. Refused, before a byte is written: 9 for a count or an n over
-// 65,538 and for a way forward past it, 15 for a way back past 0, 4 where the blocks do not fit the output. The answer becomes 0, or the refusal's
-// number, and is all that a refusal changes.
-pub fn run_core(s: State, answer: &mut u64, out: &mut [u8], n: usize, back: bool) -> Ran
-    ensures state { state_of result.state ≡ run_state back (state_of s) (length out.old) n }
-    ensures wrote { result.wrote ≡ length (run_part back (state_of s) (length out.old) n) }
-    ensures answer { answer.new ≡ run_number back s.count (length out.old) n }
-    ensures out { out.new ≡ run_part back (state_of s) (length out.old) n ++ drop result.wrote out.old }
+// 65,538 and for a way forward past it, 15 for a way back past 0, 4 where the blocks do not fit the output.
+pub fn run_core(s: State, out: &mut [u8], n: usize, back: bool) -> Result<State, Refusal>
+    ensures answer { answer_number result ≡ run_number back s.count (length out.old) n }
+    ensures state { state_after s result ≡ run_state back (state_of s) (length out.old) n }
+    ensures wrote { granted (answer_number result) (16 * n) 0 ≡ length (run_part back (state_of s) (length out.old) n) }
+    ensures out { out.new ≡ run_part back (state_of s) (length out.old) n ++ drop (length (run_part back (state_of s) (length out.old) n)) out.old }
 {
-    let number = steps_number(s.count, n as u64, back);
-    if number != 0 {
-        *answer = number;
-        return refused(s);
-    }
+    steps_allowed(s.count, n as u64, back)?;
     if out.len() < 16 * n {
-        *answer = scope::SHORT_OUTPUT;
-        return refused(s);
+        return Err(Refusal::ShortOutput);
     }
-    *answer = scope::ACCEPTED;
     let old = s.registers;
-    let state = State {
+    Ok(State {
         registers: steps(old, out, n, back),
         count: counted(s.count, n as u64, back),
-    };
-    Ran {
-        state: state,
-        wrote: 16 * n,
-    }
+    })
 }
 
-// The same with the state lent: how many bytes were written comes back.
-fn run_lent(s: &mut State, answer: &mut u64, out: &mut [u8], n: usize, back: bool) -> usize
+// The same with the state lent, which a refusal leaves: how many bytes were written comes back.
+fn run_lent(
+    s: &mut State,
+    answer: &mut Result<(), Refusal>,
+    out: &mut [u8],
+    n: usize,
+    back: bool,
+) -> usize
     ensures state { state_of s.new ≡ run_state back (state_of s.old) (length out.old) n }
     ensures wrote { result ≡ length (run_part back (state_of s.old) (length out.old) n) }
-    ensures answer { answer.new ≡ run_number back s.old.count (length out.old) n }
+    ensures answer { answer_number answer.new ≡ run_number back s.old.count (length out.old) n }
     ensures out { out.new ≡ run_part back (state_of s.old) (length out.old) n ++ drop (length (run_part back (state_of s.old) (length out.old) n)) out.old }
 {
-    let t = run_core(*s, answer, out, n, back);
-    *s = t.state;
-    t.wrote
+    match run_core(*s, out, n, back) {
+        Ok(t) => {
+            *s = t;
+            *answer = Ok(());
+            16 * n
+        }
+        Err(e) => {
+            *answer = Err(e);
+            0
+        }
+    }
 }
 
 // The same where the part of the output that holds the blocks comes back, empty on a refusal: the output ends as that part ends, and behind it the rest
 // as it was.
 pub fn run<'a>(
     s: &mut State,
-    answer: &mut u64,
+    answer: &mut Result<(), Refusal>,
     out: &'a mut [u8],
     n: usize,
     back: bool,
 ) -> &'a mut [u8]
     ensures state { state_of s.new ≡ run_state back (state_of s.old) (length out.old) n }
-    ensures answer { answer.new ≡ run_number back s.old.count (length out.old) n }
+    ensures answer { answer_number answer.new ≡ run_number back s.old.count (length out.old) n }
     ensures part { (result.ref_ptr ≡ out.entry.ref_ptr) × (result.now ≡ run_part back (state_of s.old) (length out.old) n) }
     ensures* rest { sem 𝓛 (front_of out.entry result (drop (length result.now) out.old)) }
 {

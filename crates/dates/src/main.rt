@@ -4,7 +4,6 @@
 
 mod days;
 mod keeping;
-mod report;
 
 use std::io;
 

@@ -1,13 +1,9 @@
 -- What is known of the blocks seen so far, with one block more: what was seen of those before it, and what it says itself, make what is known of all. And what
 -- the place of a first block says of whether there is one.
-use mathlib.Core.Path.{◌≡◌, refl, sym, ap, ap₂, subst, ◌∙◌}
-use mathlib.Core.Bool.{Bool, true, false, not, ◌&&◌, ◌||◌, true≢false, and-true, and-false}
-use mathlib.Core.List.{List, [], ◌∷◌, ◌++◌, map}
-use Prim.Native.Nat.{ℕ, zero, suc, ◌+◌, ◌*◌, ◌≤◌, ◌<◌}
-use native.Mathlib.Omega.{arith}
-use borrow.Author.Tests.{ne_eqb, lt-ltb, le-ltb}
-use lib.Dec.{lit<, lit≤, eqb, ltb, leb-suc-suc, eqb-suc-suc}
-use lib.ListN.{length, get_or}
+use Rattle.std.proofs.Common.{◌≡◌, ℕ, zero, suc, ◌+◌, ◌*◌, ◌<◌, Bool, true, false, not, ◌&&◌, ◌||◌, eqb, List, [], ◌∷◌, ◌++◌, map, length, get_or, Option, None, refl, sym, ap, ap₂, subst, ◌∙◌, true≢false, arith, lit<, lit≤}
+use Rattle.std.specs.Bool.{then_some}
+use Rattle.std.specs.Option.{option_or}
+use mathlib.Core.Bool.{and-true, and-false}
 use Rattle.scope.specs.Refusals.{pick}
 use Rattle.words.specs.Bytes.{same, part}
 use Rattle.words.proofs.Parts.{part_at, part_part}
@@ -15,10 +11,10 @@ use Rattle.words.proofs.Tests.{same_eq, same_refl, both_ways}
 use Rattle.fields.specs.Fields.{every}
 use Rattle.fields.specs.Blocks.{cut}
 use Rattle.fields.proofs.Every.{every_append}
-use Rattle.fields.proofs.Blocks.{cut_long, cut_more}
+use Rattle.fields.proofs.Blocks.{cut_more}
 use Rattle.key_store.specs.Layout.{mark_of, iv_of, well_laid}
 use Rattle.key_store.specs.Store.{is_empty, present, holds, any, first, found, once}
-use Rattle.key_store.specs.Inner.{repeats, Surveyed}
+use Rattle.key_store.specs.Inner.{repeats, place, Surveyed}
 use Rattle.key_store.specs.declared.Seen.{Seen}
 
 -- ---- whether there is one
@@ -32,30 +28,15 @@ any_append p (b ∷ us) vs = go (p b) (any_append p us vs)
     go true e = refl
     go false e = e
 
-first_le : (p : List ℕ → Bool) (bs : List (List ℕ)) → first p bs ≤ length bs
-unfolding first
-first_le p [] = omega arith
-first_le p (b ∷ bs) = go (p b) (first_le p bs)
-  where
-    go : (c : Bool) → first p bs ≤ length bs → pick c zero (suc (first p bs)) ≤ suc (length bs)
-    go true h = omega arith
-    go false h = omega arith
-
--- its place lies inside
-first_inside : (p : List ℕ → Bool) (bs : List (List ℕ)) → ltb (first p bs) (length bs) ≡ any p bs
+-- the first place lies inside
+pub first_inside : (p : List ℕ → Bool) (bs : List (List ℕ)) → any p bs ≡ true → first p bs < length bs
 unfolding first any
-first_inside p [] = le-ltb 0 0 (omega arith)
-first_inside p (b ∷ bs) = go (p b) (first_inside p bs)
+first_inside p [] e = absurd (true≢false (sym e))
+first_inside p (b ∷ bs) e = go (p b) e (λ k. first_inside p bs k)
   where
-    go : (c : Bool) → ltb (first p bs) (length bs) ≡ any p bs → ltb (pick c zero (suc (first p bs))) (suc (length bs)) ≡ (c || any p bs)
-    go true e = lt-ltb 0 (suc (length bs)) (omega arith)
-    go false e = leb-suc-suc (suc (first p bs)) (length bs) ∙ e
-
-pub inside : (p : List ℕ → Bool) (bs : List (List ℕ)) → first p bs < length bs → any p bs ≡ true
-inside p bs h = sym (first_inside p bs) ∙ lt-ltb (first p bs) (length bs) h
-
-pub outside : (p : List ℕ → Bool) (bs : List (List ℕ)) → length bs ≤ first p bs → any p bs ≡ false
-outside p bs h = sym (first_inside p bs) ∙ le-ltb (first p bs) (length bs) h
+    go : (c : Bool) → (c || any p bs) ≡ true → (any p bs ≡ true → first p bs < length bs) → pick c zero (suc (first p bs)) < suc (length bs)
+    go true e h = omega arith
+    go false e h = let k = h e in omega arith
 
 -- and it holds of the block there
 pub found_holds : (p : List ℕ → Bool) (bs : List (List ℕ)) → any p bs ≡ true → p (found p bs) ≡ true
@@ -97,27 +78,31 @@ present_more iv s i c m e f =
     or_false true = refl
     or_false false = refl
 
-first_more : (p : List ℕ → Bool) (bs : List (List ℕ)) (b : List ℕ)
-    → first p (bs ++ b ∷ []) ≡ pick (eqb (first p bs) (length bs) && not (p b)) (length bs + 1) (first p bs)
-unfolding first
-first_more p [] b = go (p b)
+place_more : (p : List ℕ → Bool) (bs : List (List ℕ)) (b : List ℕ)
+    → option_or (place p bs) (then_some (p b) (length bs)) ≡ place p (bs ++ b ∷ [])
+unfolding any first
+place_more p [] b = go (p b)
   where
-    go : (c : Bool) → pick {A = ℕ} c 0 1 ≡ pick (not c) 1 0
+    go : (c : Bool) → then_some c 0 ≡ then_some (c || false) (pick {A = ℕ} c 0 1)
     go true = refl
     go false = refl
-first_more p (a ∷ bs) b = go (p a) (first_more p bs b)
+place_more p (a ∷ bs) b = go (p a) (up (any p bs) (first p bs) (p b) (length bs) _ _ (place_more p bs b))
   where
-    next : (t : Bool) (m n : ℕ) → suc (pick t (n + 1) m) ≡ pick t (suc n + 1) (suc m)
-    next true m n = omega arith
-    next false m n = refl
+    up : (c : Bool) (n : ℕ) (t : Bool) (m : ℕ) (d : Bool) (k : ℕ) → option_or (then_some c n) (then_some t m) ≡ then_some d k
+        → option_or (then_some c (suc n)) (then_some t (suc m)) ≡ then_some d (suc k)
+    up true n t m true k e = cc
+    up true n t m false k e = cc
+    up false n true m true k e = cc
+    up false n true m false k e = cc
+    up false n false m true k e = cc
+    up false n false m false k e = refl
 
-    go : (c : Bool) → first p (bs ++ b ∷ []) ≡ pick (eqb (first p bs) (length bs) && not (p b)) (length bs + 1) (first p bs)
-        → pick c zero (suc (first p (bs ++ b ∷ [])))
-        ≡ pick (eqb (pick c zero (suc (first p bs))) (suc (length bs)) && not (p b)) (suc (length bs) + 1) (pick c zero (suc (first p bs)))
-    go true e = rw (ne_eqb 0 (suc (length bs)) (λ h. omega arith))
-    go false e =
-        ap suc e ∙ next (eqb (first p bs) (length bs) && not (p b)) (first p bs) (length bs)
-        ∙ ap (λ (t : Bool). pick (t && not (p b)) (suc (length bs) + 1) (suc (first p bs))) (sym (eqb-suc-suc (first p bs) (length bs)))
+    go : (c : Bool) → option_or (then_some (any p bs) (suc (first p bs))) (then_some (p b) (suc (length bs)))
+        ≡ then_some (any p (bs ++ b ∷ [])) (suc (first p (bs ++ b ∷ [])))
+        → option_or (then_some (c || any p bs) (pick c zero (suc (first p bs)))) (then_some (p b) (suc (length bs)))
+        ≡ then_some (c || any p (bs ++ b ∷ [])) (pick c zero (suc (first p (bs ++ b ∷ []))))
+    go true e = refl
+    go false e = e
 
 same_comm : (s t : List ℕ) → same s t ≡ same t s
 same_comm s t =
@@ -151,9 +136,9 @@ once_more (a ∷ bs) b =
 
 module _ (iv : List ℕ) (w : Bool) (bs : List (List ℕ)) (b : List ℕ) (s r : Seen) (g : Surveyed iv w bs s) where
   -- a test of the block that the code made
-  first_as : (p : List ℕ → Bool) (t : Bool) (i m n : ℕ) → i ≡ length bs → m ≡ first p bs → t ≡ p b → n ≡ pick (eqb m i && not t) (i + 1) m
-      → n ≡ first p (bs ++ b ∷ [])
-  first_as p t i m n ei em et en = en ∙ rw (ei, em, et) (sym (first_more p bs b))
+  place_as : (p : List ℕ → Bool) (t : Bool) (i : ℕ) {m n : Option ℕ} → i ≡ length bs → m ≡ place p bs → t ≡ p b → n ≡ option_or m (then_some t i)
+      → n ≡ place p (bs ++ b ∷ [])
+  place_as p t i ei em et en = en ∙ rw (ei, em, et) (place_more p bs b)
 
   sound_as : (w e o l t : Bool) → ((w && (e && o)) && l && not t) ≡ (w && ((e && (l && true)) && (o && not t)))
   sound_as false e o l t = refl
@@ -167,9 +152,9 @@ module _ (iv : List ℕ) (w : Bool) (bs : List (List ℕ)) (b : List ℕ) (s r :
 
   pub seen_more : (i mark : ℕ) (asked laid twice : Bool) → i ≡ length bs → mark ≡ mark_of b → asked ≡ same (iv_of b) iv → laid ≡ well_laid b
       → twice ≡ repeats b bs → r.sound ≡ (s.sound && laid && not twice)
-      → r.empty ≡ pick (eqb s.empty i && not (eqb mark 0)) (i + 1) s.empty
-      → r.present ≡ pick (eqb s.present i && not (not (eqb mark 0) && asked)) (i + 1) s.present
-      → r.holding ≡ pick (eqb s.holding i && not (eqb mark 1 && asked)) (i + 1) s.holding → Surveyed iv w (bs ++ b ∷ []) r
+      → r.empty ≡ option_or s.empty (then_some (eqb mark 0) i)
+      → r.present ≡ option_or s.present (then_some (not (eqb mark 0) && asked) i)
+      → r.holding ≡ option_or s.holding (then_some (eqb mark 1 && asked) i) → Surveyed iv w (bs ++ b ∷ []) r
   seen_more i mark asked laid twice ei em ea el et es ev ep eh =
       record {
         sound =
@@ -178,25 +163,15 @@ module _ (iv : List ℕ) (w : Bool) (bs : List (List ℕ)) (b : List ℕ) (s r :
             ∙ ap (λ (x : Bool). (x && well_laid b) && not (repeats b bs)) g.sound
             ∙ sound_as w (every (map well_laid bs)) (once bs) (well_laid b) (repeats b bs)
             ∙ ap₂ (λ (x y : Bool). w && (x && y)) (sym every_more) (sym (once_more bs b));
-        empty = first_as is_empty (eqb mark 0) i s.empty r.empty ei g.empty (ap (λ (m : ℕ). eqb m 0) em) ev;
+        empty = place_as is_empty (eqb mark 0) i ei g.empty (ap (λ (m : ℕ). eqb m 0) em) ev;
         present =
-            first_as (present iv) (not (eqb mark 0) && asked) i s.present r.present ei g.present
-            (ap₂ (λ (m : ℕ) (a : Bool). not (eqb m 0) && a) em ea) ep;
-        holding =
-            first_as (holds iv) (eqb mark 1 && asked) i s.holding r.holding ei g.holding (ap₂ (λ (m : ℕ) (a : Bool). eqb m 1 && a) em ea)
-            eh;
+            place_as (present iv) (not (eqb mark 0) && asked) i ei g.present (ap₂ (λ (m : ℕ) (a : Bool). not (eqb m 0) && a) em ea) ep;
+        holding = place_as (holds iv) (eqb mark 1 && asked) i ei g.holding (ap₂ (λ (m : ℕ) (a : Bool). eqb m 1 && a) em ea) eh;
       }
 
 pub seen_in : (iv : List ℕ) (w : Bool) (s : Seen) {bs bs' : List (List ℕ)} → bs' ≡ bs → Surveyed iv w bs s → Surveyed iv w bs' s
 seen_in iv w s e g = subst (λ (l : List (List ℕ)). Surveyed iv w l s) (sym e) g
 
-pub seen_none : (iv : List ℕ) (w : Bool) (s : Seen) → s.sound ≡ w → s.empty ≡ 0 → s.present ≡ 0 → s.holding ≡ 0 → Surveyed iv w [] s
-unfolding every once first
-seen_none iv w s es ev ep eh = record { sound = es ∙ sym (and-true w); empty = ev; present = ep; holding = eh }
-
--- places found so far lie among the blocks seen so far
-pub seen_fewer : (iv : List ℕ) (w : Bool) (i : ℕ) (s : List ℕ) (g : Seen) → Surveyed iv w (cut i s) g
-    → (g.empty ≤ i) × (g.present ≤ i) × (g.holding ≤ i)
-seen_fewer iv w i s g h =
-    let few : (p : List ℕ → Bool) (n : ℕ) → n ≡ first p (cut i s) → n ≤ i = λ p n e. omega (arith, e, first_le p (cut i s), cut_long i s) in
-    (few is_empty g.empty h.empty, few (present iv) g.present h.present, few (holds iv) g.holding h.holding)
+pub seen_none : (iv : List ℕ) (w : Bool) → Surveyed iv w [] (record { sound = w; empty = None; present = None; holding = None })
+unfolding every once any
+seen_none iv w = record { sound = sym (and-true w); empty = refl; present = refl; holding = refl }

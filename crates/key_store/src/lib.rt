@@ -1,8 +1,8 @@
 // A key store: stays' keys in blocks of 512 bytes, each sealed under the season's key; stored, fetched and erased by the stay number. Document 02's shelf.
 #![tactic(auto)]
 
-ghost use Rattle.std.specs.Prelude.{◌≡◌, Bool, true, not, ◌&&◌, ◌+◌, ◌*◌, ◌^◌, ◌≤◌, ◌<◌, eqb, length, replicate};
-ghost use Rattle.scope.specs.Refusals.{pick};
+ghost use Rattle.std.specs.Prelude.{◌≡◌, Bool, true, ◌+◌, ◌*◌, ◌≤◌, length};
+ghost use Rattle.scope.specs.Machine.{answer_number};
 ghost use Rattle.words.specs.Bytes.{part};
 ghost use Rattle.words.specs.Machine.{bytes_of};
 ghost use Rattle.fields.specs.Blocks.{cut, blocks, whole, replaced};
@@ -10,8 +10,10 @@ ghost use Rattle.key_store.specs.Layout;
 ghost use Rattle.key_store.specs.Layout.{iv_of, well_laid, held_block, erased_block};
 ghost use Rattle.key_store.specs.Store.{present, any};
 ghost use Rattle.key_store.specs.Calls.{store_number, store_after, fetch_number, fetch_key, erase_number, erase_after};
+ghost use Rattle.key_store.specs.Machine.{key_of};
 ghost use Rattle.key_store.specs.Inner.{repeats, Surveyed, Opens};
 
+use scope::Refusal;
 use words::Block;
 
 // What the mark of a block says.
@@ -57,8 +59,8 @@ fn held_block(key: &[u8], iv: &[u8], stay_key: &[u8]) -> [u8; 512]
     ensures { result ≡ held_block key.now iv.now stay_key.now }
 {
     let mut sealed = [0u8; 32];
-    let p = page::seal(key, iv, &iv[..0], stay_key, &mut sealed);
-    let tag = p.tag;
+    // Every length is in order, so that nothing is refused.
+    let tag = page::seal(key, iv, &iv[..0], stay_key, &mut sealed).unwrap();
     block_of(HELD, words::load(iv, 0), sealed, words::load(&tag, 0))
 }
 
@@ -89,12 +91,10 @@ fn present(store: &[u8], n: usize, iv: Block) -> bool
     ensures { result ≡ any (present (bytes_of iv)) (cut n store.now) }
 {
     let mut found = false;
-    let mut i: usize = 0;
-    while i < n {
+    for i in 0..n {
         let at = 512 * i;
         let same = words::same(words::load(store, at + 16), iv);
         found = found | ((store[at] != EMPTY) & same);
-        i += 1;
     }
     found
 }
@@ -111,29 +111,18 @@ fn again(store: &[u8], i: usize) -> bool
 }
 
 // What the blocks of a store say, one after the other: whether all obey the rules and no number stands twice; and the places of the first one that is empty,
-// of the first that has a number, and of the first that holds its key, each as many as there are where there is none.
+// of the first that has a number, and of the first that holds its key.
 #[derive(Clone, Copy)]
 struct Seen {
     sound: bool,
-    empty: usize,
-    present: usize,
-    holding: usize,
-}
-
-// The first place of which a test holds, among one place more.
-fn first(found: usize, i: usize, holds: bool) -> usize
-    requires { (found ≤ i) × (i < 2 ^ 63) }
-    ensures { result ≡ pick (eqb found i && not holds) (i + 1) found }
-{
-    if (found == i) & !holds {
-        return i + 1;
-    }
-    found
+    empty: Option<usize>,
+    present: Option<usize>,
+    holding: Option<usize>,
 }
 
 // One block more, at place i.
 fn look(s: Seen, store: &[u8], i: usize, iv: Block) -> Seen
-    requires { (512 * i + 512 ≤ length store.now) × (s.empty ≤ i) × (s.present ≤ i) × (s.holding ≤ i) }
+    requires { 512 * i + 512 ≤ length store.now }
     ensures { (w : Bool) → Surveyed (bytes_of iv) w (cut i store.now) s → Surveyed (bytes_of iv) w (cut (i + 1) store.now) result }
 {
     let at = 512 * i;
@@ -141,14 +130,14 @@ fn look(s: Seen, store: &[u8], i: usize, iv: Block) -> Seen
     let asked = words::same(words::load(store, at + 16), iv);
     let laid = well_laid(&store[at..at + 512]);
     let twice = again(store, i);
-    let empty = first(s.empty, i, mark == EMPTY);
-    let present = first(s.present, i, (mark != EMPTY) & asked);
-    let holding = first(s.holding, i, (mark == HELD) & asked);
+    let empty = (mark == EMPTY).then_some(i);
+    let present = ((mark != EMPTY) & asked).then_some(i);
+    let holding = ((mark == HELD) & asked).then_some(i);
     Seen {
         sound: s.sound & laid & !twice,
-        empty: empty,
-        present: present,
-        holding: holding,
+        empty: s.empty.or(empty),
+        present: s.present.or(present),
+        holding: s.holding.or(holding),
     }
 }
 
@@ -158,18 +147,14 @@ fn survey(store: &[u8], iv: &[u8]) -> Seen
     ensures { Surveyed iv.now (whole store.now) (blocks store.now) result }
 {
     let number = words::load(iv, 0);
-    let count = store.len() / 512;
     let mut s = Seen {
         sound: store.len() % 512 == 0,
-        empty: 0,
-        present: 0,
-        holding: 0,
+        empty: None,
+        present: None,
+        holding: None,
     };
-    let mut i: usize = 0;
-    while i < count {
-        let t = look(s, store, i, number);
-        s = t;
-        i += 1;
+    for i in 0..store.len() / 512 {
+        s = look(s, store, i, number);
     }
     s
 }
@@ -177,110 +162,82 @@ fn survey(store: &[u8], iv: &[u8]) -> Seen
 // Stores a stay's key in the first empty block, sealed under the season's key. Every other byte stays. Document 02's word is shelve. Refused: 1 for the length of
 // either key, 2 for the number's, 8 for a store that breaks a layout rule or has a number twice, 16 for a number that it has, held or erased, 4 where no block is
 // empty.
-pub fn store(key: &[u8], iv: &[u8], stay_key: &[u8], store: &mut [u8]) -> u64
-    ensures answer { result ≡ store_number key.now iv.now stay_key.now store.old }
+pub fn store(key: &[u8], iv: &[u8], stay_key: &[u8], store: &mut [u8]) -> Result<(), Refusal>
+    ensures answer { answer_number result ≡ store_number key.now iv.now stay_key.now store.old }
     ensures store { store.new ≡ store_after key.now iv.now stay_key.now store.old }
 {
     if key.len() != 32 {
-        return scope::KEY_LENGTH;
+        return Err(Refusal::KeyLength);
     }
     if stay_key.len() != 32 {
-        return scope::KEY_LENGTH;
+        return Err(Refusal::KeyLength);
     }
     if iv.len() != 16 {
-        return scope::IV_LENGTH;
+        return Err(Refusal::IvLength);
     }
     let s = survey(store, iv);
     if !s.sound {
-        return scope::BAD_BLOCK;
+        return Err(Refusal::BadBlock);
     }
-    if s.present < store.len() / 512 {
-        return scope::NUMBER_TAKEN;
+    if s.present.is_some() {
+        return Err(Refusal::NumberTaken);
     }
-    if s.empty >= store.len() / 512 {
-        return scope::SHORT_OUTPUT;
-    }
-    let block = held_block(key, iv, stay_key);
-    put_block(store, s.empty, block);
-    scope::ACCEPTED
-}
-
-// A fetch's answer, 0 or the refusal's number, and the stay's key (zeros on a refusal).
-#[derive(Clone, Copy)]
-pub struct Fetched {
-    pub answer: u64,
-    pub key: [u8; 32],
-}
-
-fn refused(n: u64) -> Fetched
-    ensures { (result.answer ≡ n) × (result.key ≡ replicate 32 0) }
-{
-    Fetched {
-        answer: n,
-        key: [0; 32],
-    }
+    let i = s.empty.ok_or(Refusal::ShortOutput)?;
+    put_block(store, i, held_block(key, iv, stay_key));
+    Ok(())
 }
 
 // The key that a block holds. Refused: 5.
-fn open_block(key: &[u8], iv: &[u8], block: &[u8]) -> Fetched
+fn open_block(key: &[u8], iv: &[u8], block: &[u8]) -> Result<[u8; 32], Refusal>
     requires { (length key.now ≡ 32) × (length iv.now ≡ 16) × (length block.now ≡ 512) }
     ensures { Opens key.now iv.now block.now result }
 {
     let mut stay_key = [0u8; 32];
-    let answer = page::open(
+    page::open(
         key,
         iv,
         &iv[..0],
         &block[32..64],
         &block[64..80],
         &mut stay_key,
-    );
-    Fetched {
-        answer: answer,
-        key: stay_key,
-    }
+    )?;
+    Ok(stay_key)
 }
 
 // Fetches a stay's key. Refused: 1 for the key's length, 2 for the number's, 8 for a store that breaks a layout rule or has a number twice, 17 for a number that
 // is absent or erased, 5 for a tag that is not the sealed key's.
-pub fn fetch(key: &[u8], iv: &[u8], store: &[u8]) -> Fetched
-    ensures answer { result.answer ≡ fetch_number key.now iv.now store.now }
-    ensures key { result.key ≡ fetch_key key.now iv.now store.now }
+pub fn fetch(key: &[u8], iv: &[u8], store: &[u8]) -> Result<[u8; 32], Refusal>
+    ensures answer { answer_number result ≡ fetch_number key.now iv.now store.now }
+    ensures key { key_of result ≡ fetch_key key.now iv.now store.now }
 {
     if key.len() != 32 {
-        return refused(scope::KEY_LENGTH);
+        return Err(Refusal::KeyLength);
     }
     if iv.len() != 16 {
-        return refused(scope::IV_LENGTH);
+        return Err(Refusal::IvLength);
     }
     let s = survey(store, iv);
     if !s.sound {
-        return refused(scope::BAD_BLOCK);
+        return Err(Refusal::BadBlock);
     }
-    if s.holding >= store.len() / 512 {
-        return refused(scope::NO_KEY);
-    }
-    let at = 512 * s.holding;
+    let at = 512 * s.holding.ok_or(Refusal::NoKey)?;
     open_block(key, iv, &store[at..at + 512])
 }
 
 // Erases a stay's key: mark 2, zeros for the sealed key and its tag, and the check made anew. The number and every other block stay. It takes no key. Refused: 2
 // for the number's length, 8 for a store that breaks a layout rule or has a number twice, 17 for a number that is absent or erased.
-pub fn erase(iv: &[u8], store: &mut [u8]) -> u64
-    ensures answer { result ≡ erase_number iv.now store.old }
+pub fn erase(iv: &[u8], store: &mut [u8]) -> Result<(), Refusal>
+    ensures answer { answer_number result ≡ erase_number iv.now store.old }
     ensures store { store.new ≡ erase_after iv.now store.old }
 {
     if iv.len() != 16 {
-        return scope::IV_LENGTH;
+        return Err(Refusal::IvLength);
     }
     let s = survey(store, iv);
     if !s.sound {
-        return scope::BAD_BLOCK;
+        return Err(Refusal::BadBlock);
     }
-    if s.holding >= store.len() / 512 {
-        return scope::NO_KEY;
-    }
-    let at = 512 * s.holding;
+    let at = 512 * s.holding.ok_or(Refusal::NoKey)?;
     erase_block(&mut store[at..at + 512]);
-    scope::ACCEPTED
+    Ok(())
 }

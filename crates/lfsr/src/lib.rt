@@ -10,7 +10,7 @@ ghost use Rattle.lfsr.specs.Unclock.{solved_v, unclocks};
 ghost use Rattle.lfsr.specs.Machine.{lfsr_of};
 
 // LFSR-A and LFSR-B.
-#[derive(Clone, Copy)]
+#[derive(Clone, Copy, PartialEq, Eq)]
 pub struct Lfsr {
     pub a: [u16; 16],
     pub b: [u16; 16],

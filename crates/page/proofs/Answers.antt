@@ -41,7 +41,7 @@ module _ (key iv d : List ℕ) (key_long : length key ≡ 32) (iv_long : length 
     unfolding seal_tag
     seal_gives = rw seal_accepted
 
-  module _ (c tag out : List ℕ) (tag_long : length tag ≡ 16) (cipher-fits : length c ≤ most_text) (room : length c ≤ length out) where
+  module _ (c tag out : List ℕ) (tag_long : length tag ≡ 16) (cipher_fits : length c ≤ most_text) (room : length c ≤ length out) where
     pub open_by_tag : open_number key iv d c tag out ≡ refuse (not (same tag (tag_for key iv d c))) bad_tag 0
     unfolding open_number
     open_by_tag =
@@ -50,7 +50,7 @@ module _ (key iv d : List ℕ) (key_long : length key ≡ 32) (iv_long : length 
           eq-eqb (length iv) 16 iv_long,
           eq-eqb (length tag) 16 tag_long,
           le-ltb most_data (length d) ad_fits,
-          le-ltb most_text (length c) cipher-fits,
+          le-ltb most_text (length c) cipher_fits,
           le-ltb (length out) (length c) room,
         )
 

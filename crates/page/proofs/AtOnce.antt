@@ -4,10 +4,13 @@ use mathlib.Core.Path.{◌≡◌, refl, sym, ap, subst, ◌∙◌}
 use mathlib.Core.List.{List, [], ◌++◌}
 use Prim.Native.Nat.{ℕ}
 use lib.ListN.{length, drop}
+use Rattle.std.specs.Prelude.{Result, Ok, Err, IsOk}
+use Rattle.scope.specs.declared.Refusal.{Refusal}
+use Rattle.scope.proofs.Refused.{refused}
 use Rattle.ghash.specs.Machine.{bytes_of_element, Table}
 use Rattle.session.specs.declared.Session as machine
 use Rattle.session.specs.Session.{Session}
-use Rattle.session.specs.Machine.{session_of}
+use Rattle.session.specs.Machine.{session_of, Begins}
 use Rattle.session.specs.Calls.{Given, begin_call}
 use Rattle.session.specs.Pieces.{data_taken, closed, text_out}
 use Rattle.start.specs.Start.{sealed_keystream}
@@ -16,8 +19,13 @@ use Rattle.page.proofs.Stages.{Stage, Stage.taking_data, Stage.taking_text, sess
 use Rattle.page.proofs.WholeCalls.{begin_call_at}
 
 module _ (key iv : List ℕ) where
-  pub begun_session : (b : Session) → length key ≡ 32 → length iv ≡ 16 → b ≡ (begin_call key iv).session → b ≡ session_at key iv (taking_data [])
-  begun_session b k v e = e ∙ ap (λ (g : Given). g.session) (begin_call_at key iv k v)
+  pub begins : (r : Result machine.Session Refusal) → length key ≡ 32 → length iv ≡ 16 → Begins (begin_call key iv) r → IsOk r
+  begins (Ok b) k v h = refl
+  begins (Err e) k v h = absurd (refused e (h ∙ ap (λ (g : Given). g.number) (begin_call_at key iv k v)))
+
+  pub begun_session : (b : machine.Session) (r : Result machine.Session Refusal) → length key ≡ 32 → length iv ≡ 16 → Begins (begin_call key iv) r → r ≡ Ok b
+      → session_of b ≡ session_at key iv (taking_data [])
+  begun_session b r k v h q = (subst (Begins (begin_call key iv)) q h).1 ∙ ap (λ (g : Given). g.session) (begin_call_at key iv k v)
 
   -- ---- the table of H
 

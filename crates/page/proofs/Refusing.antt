@@ -7,14 +7,19 @@ use native.Mathlib.Omega.{arith}
 use borrow.Author.Tests.{eq-eqb, ne_eqb, lt-ltb, le-ltb, eqb-true, ltb-false}
 use lib.Dec.{eqb, ltb}
 use lib.ListN.{length}
+use Rattle.std.specs.Prelude.{Result, Err}
 use Rattle.scope.specs.Limits.{most_data, most_text}
 use Rattle.scope.specs.Refusals.{refuse}
-use Rattle.words.specs.Bytes.{zeros, same}
+use Rattle.scope.specs.declared.Refusal.{Refusal}
+use Rattle.scope.specs.Machine.{refusal_number, answer_number}
+use Rattle.scope.proofs.Refused.{refused}
+use Rattle.words.specs.Bytes.{same}
 use Rattle.words.proofs.Tests.{neither}
 use Rattle.start.specs.Start.{start_number}
 use Rattle.page.specs.Page.{tag_for}
 use Rattle.page.specs.Calls.{over_limit, seal_number, seal_out, seal_tag, open_number, open_out}
 use Rattle.page.specs.Inner.{before_tag}
+use Rattle.page.specs.Machine.{tag_of}
 
 -- ---- the limits
 
@@ -53,11 +58,11 @@ module _ (key iv d t out : List ℕ) where
     seal_short h r = rw (eq-eqb (length key) 32 k, eq-eqb (length iv) 16 v, h, lt-ltb (length out) (length t) r)
 
   -- what a refused one gives and leaves
-  pub seal_refused : {n answer : ℕ} {tag : List ℕ} → n ≡ seal_number key iv d t out → ¬ (n ≡ 0) → (answer ≡ n) × (tag ≡ zeros)
-      → (answer ≡ seal_number key iv d t out) × ((tag ≡ seal_tag key iv d t out) × (out ≡ seal_out key iv d t out))
+  pub seal_refused : (r : Result (List ℕ) Refusal) (e : Refusal) → r ≡ Err e → refusal_number e ≡ seal_number key iv d t out
+      → (answer_number r ≡ seal_number key iv d t out) × ((tag_of r ≡ seal_tag key iv d t out) × (out ≡ seal_out key iv d t out))
   unfolding seal_tag seal_out
-  seal_refused e h g =
-      let no = ne_eqb (seal_number key iv d t out) 0 (λ z. h (e ∙ z)) in (g.0 ∙ e, (g.1 ∙ rw no, rw no))
+  seal_refused r e q h =
+      let no = ne_eqb (seal_number key iv d t out) 0 (λ z. refused e (h ∙ z)) in (rw q h, (rw (q, no), rw no))
 
 -- ---- open
 
@@ -126,15 +131,16 @@ module _ (key iv d c tag out : List ℕ) where
         room = ltb-false (length out) (length c) n.1.1.1.1;
       }
 
-  open_refused : {n : ℕ} → n ≡ open_number key iv d c tag out → ¬ (n ≡ 0) → (n ≡ open_number key iv d c tag out) × (out ≡ open_out key iv d c tag out)
+  -- what a refused one leaves
+  pub open_leaves : (e : Refusal) → refusal_number e ≡ open_number key iv d c tag out → out ≡ open_out key iv d c tag out
   unfolding open_out
-  open_refused e h = (e, rw (ne_eqb (open_number key iv d c tag out) 0 (λ z. h (e ∙ z))))
+  open_leaves e h = rw (ne_eqb (open_number key iv d c tag out) 0 (λ z. refused e (h ∙ z)))
 
-  pub open_before : {n : ℕ} → n ≡ before_tag key iv d c tag out 0 → ¬ (n ≡ 0) → (n ≡ open_number key iv d c tag out) × (out ≡ open_out key iv d c tag out)
+  pub open_before : {n : ℕ} → n ≡ before_tag key iv d c tag out 0 → ¬ (n ≡ 0) → n ≡ open_number key iv d c tag out
   unfolding open_number
   open_before e h =
-      open_refused (first (eqb (length key) 32) (eqb (length iv) 16) (eqb (length tag) 16) (over_limit d c) (ltb (length out) (length c)) _ e h) h
+      first (eqb (length key) 32) (eqb (length iv) 16) (eqb (length tag) 16) (over_limit d c) (ltb (length out) (length c)) _ e h
 
-  pub open_broken : InOrder key iv d c tag out → same tag (tag_for key iv d c) ≡ false → (5 ≡ open_number key iv d c tag out) × (out ≡ open_out key iv d c tag out)
+  pub open_broken : InOrder key iv d c tag out → same tag (tag_for key iv d c) ≡ false → 5 ≡ open_number key iv d c tag out
   unfolding open_number
-  open_broken i e = open_refused (sym (ap (λ (b : Bool). refuse (not b) 5 0) e) ∙ before_none (refuse (not (same tag (tag_for key iv d c))) 5 0) i) (λ z. omega arith)
+  open_broken i e = sym (ap (λ (b : Bool). refuse (not b) 5 0) e) ∙ before_none (refuse (not (same tag (tag_for key iv d c))) 5 0) i

@@ -3,3 +3,4 @@ pub mod OnePass
 pub mod Calls
 pub mod Reached
 pub mod Inner
+pub mod Machine

@@ -1,17 +1,17 @@
 -- A page written part after part: the header to the front, the ciphertext by a seal that is lent what stands behind it, the tag in its place.
-use mathlib.Core.Path.{◌≡◌, sym, ap, ap₂, ◌∙◌}
-use mathlib.Core.List.{List, [], ◌++◌, append_assoc, append-nil}
-use Prim.Native.Nat.{ℕ, ◌+◌, ◌-◌, ◌≤◌}
-use native.Mathlib.Omega.{arith}
+use Rattle.std.proofs.Common.{◌≡◌, ℕ, ◌+◌, ◌-◌, ◌≤◌, List, [], ◌++◌, length, take, drop, replicate, Result, Ok, Err, IsOk, refl, sym, ap, ap₂, ◌∙◌, append_assoc, append-nil, length-append, length-drop, arith, take_all, take_at, drop_at, drop-drop, length-take-le, drop_of_length-le}
 use borrow.Rule.Slice.PartMut.{put_mid}
-use lib.ListN.{length, take, drop, replicate, length-append, length-drop, length-replicate, drop_of_length-le}
-use lib.Seq.{sets, sets-eq, take_all, take_at, drop_at, drop-drop, length-take-le}
+use Rattle.std.proofs.Math.ListN.{length-replicate}
+use Rattle.std.proofs.Math.Seq.{sets, sets-eq}
 use Rattle.scope.specs.Limits.{most_page_text}
+use Rattle.scope.specs.declared.Refusal.{Refusal}
+use Rattle.scope.specs.Machine.{answer_number}
+use Rattle.scope.proofs.Refused.{refused}
 use Rattle.words.specs.Bytes.{little}
 use Rattle.words.proofs.Bytes.{little_long}
 use Rattle.page.specs.Page.{cipher_of, page_tag}
-use Rattle.page.specs.Calls.{seal_out, seal_tag}
-use Rattle.page.proofs.Answers.{seal_writes, seal_gives}
+use Rattle.page.specs.Calls.{seal_number, seal_out, seal_tag}
+use Rattle.page.proofs.Answers.{seal_accepted, seal_writes, seal_gives}
 use Rattle.page.proofs.Ciphertext.{cipher_length}
 use Rattle.page_file.specs.Layout.{iv_of, ad_of, header, padded_text, sealed_under, sealed_page}
 
@@ -49,6 +49,20 @@ in_three h c tag out out1 part out2 out3 hl cl tl room e1 ep e2 e3 =
     ∙ ap (drop 16) (drop_at (h ++ c) r 496 hc)
     ∙ drop-drop 16 496 out in
     e3 ∙ ap (λ (l : List ℕ). sets l 496 tag) o2 ∙ q ∙ ap₂ (λ (u v : List ℕ). u ++ tag ++ v) (take_at (h ++ c) r 496 hc) d
+
+-- where it seals, nothing is refused
+pub page_allowed : (key t out out1 head whole : List ℕ) → length key ≡ 32 → length t ≤ most_page_text → 512 ≤ length out → length head ≡ 22
+    → whole ≡ padded_text t → out1 ≡ head ++ drop 22 out → seal_number key (take 16 head) head whole (take (length out1 - 22) (drop 22 out1)) ≡ 0
+page_allowed key t out out1 head whole k l room hl ew e1 =
+    let wl : length whole ≡ 474 = ap length ew ∙ padded_long t l in
+    let long1 : length out1 ≡ length out = ap length e1 ∙ length-append head (drop 22 out) ∙ ap₂ ◌+◌ hl (length-drop 22 out) ∙ omega arith in
+    let left = take (length out1 - 22) (drop 22 out1) in
+    let ll : length left ≡ length out1 - 22 = length-take-le (length out1 - 22) (drop 22 out1) (omega (arith, length-drop 22 out1)) in
+    seal_accepted key (take 16 head) head k (length-take-le 16 head (omega arith)) (omega arith) whole left (omega arith) (omega arith)
+
+pub accepted : (r : Result (List ℕ) Refusal) → answer_number r ≡ 0 → IsOk r
+accepted (Ok t) e = refl
+accepted (Err r) e = absurd (refused r e)
 
 -- and the page that they are
 pub page_written : (key stay : List ℕ) (n day : ℕ) (t out out1 part out2 out3 tag head whole : List ℕ) → length key ≡ 32 → length stay ≡ 12 → length t ≤ most_page_text → 512 ≤ length out → length tag ≡ 16

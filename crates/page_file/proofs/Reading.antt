@@ -4,7 +4,7 @@ use mathlib.Core.Bool.{Bool, true, false, not}
 use mathlib.Core.List.{List, ◌++◌, append-nil}
 use Prim.Native.Nat.{ℕ, ◌-◌, ◌≤◌, ◌<◌}
 use native.Mathlib.Omega.{arith}
-use borrow.Author.Tests.{ne_eqb, lt-ltb, le-ltb}
+use borrow.Author.Tests.{lt-ltb, le-ltb}
 use lib.ListN.{length, drop, replicate, length-drop, length-replicate}
 use lib.Seq.{take_all}
 use Rattle.scope.specs.Limits.{most_page_text}
@@ -19,14 +19,6 @@ use Rattle.page.proofs.Answers.{open_by_tag, open_writes}
 use Rattle.page.proofs.Ciphertext.{cipher_length}
 use Rattle.page_file.specs.Layout.{text_length, cipher_in, tag_in, iv_of, ad_of}
 use Rattle.page_file.specs.Calls.{content, page_open_number}
-use Rattle.page_file.specs.Inner.{Finds}
-use Rattle.page_file.specs.declared.Content.{Content}
-
--- a refusal
-pub finds_none : (key b : List ℕ) {n m : ℕ} (c : Content) → (c.answer ≡ m) × (c.length ≡ 0) × (c.text ≡ replicate 474 0) → m ≡ n → ¬ (m ≡ 0) → Finds n key b c
-finds_none key b {n} {m} c g e h =
-    let no = ne_eqb n 0 (λ z. h (e ∙ z)) in
-    record { number = g.0 ∙ e; long = g.1 ∙ rw no; found = g.2 ∙ rw no; fits = omega (arith, g.1) }
 
 -- the number of an open by its tag, whatever comes later in the order
 tag_first : (s : Bool) (later : ℕ) {n : ℕ} → n ≡ refuse (not s) 5 0 → ¬ (n ≡ 0) → n ≡ refuse (not s) 5 later
@@ -84,10 +76,6 @@ module _ (key b : List ℕ) (room : ℕ) (k : length key ≡ 32) (l : length b �
       unfolding page_open_number right
       bad_padding t g m p = rw (le-ltb room (text_length b) h, tag_is, sym (padding_is t g m) ∙ p)
 
-      pub page_opened : {text : List ℕ} {len : ℕ} → text ≡ content key b → len ≡ text_length b → text_length b ≤ most_page_text → all_zero (part len (474 - len) text) ≡ true → page_open_number key b room ≡ 0
+      pub page_opened : {text : List ℕ} {len : ℕ} → text ≡ content key b → len ≡ text_length b → text_length b ≤ most_page_text → all_zero (part len (474 - len) text) ≡ true → 0 ≡ page_open_number key b room
       unfolding page_open_number right
       page_opened t g m p = rw (le-ltb room (text_length b) h, tag_is, sym (padding_is t g m) ∙ p)
-
--- an accepted one
-pub finds_page : (key b : List ℕ) {n : ℕ} (c : Content) → n ≡ 0 → c.answer ≡ 0 → c.length ≡ text_length b → text_length b ≤ most_page_text → c.text ≡ content key b → Finds n key b c
-finds_page key b c z a l m t = record { number = a ∙ sym z; long = l ∙ rw z; found = t ∙ rw z; fits = omega (arith, l) }

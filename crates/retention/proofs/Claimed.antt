@@ -1,14 +1,13 @@
 -- What is claimed of keeping: the date until which a page is kept is one of the calendar, so that the order of dates is that of their days.
 use mathlib.Core.Path.{◌≡◌, refl, sym, ap, ap₂, subst, ◌∙◌}
 use mathlib.Core.Logic.{◌⊎◌, inl, inr}
-use mathlib.Core.Bool.{Bool, true, false, ◌||◌}
+use mathlib.Core.Bool.{Bool, true, false}
 use Prim.Native.Nat.{ℕ, ◌+◌, ◌-◌, ◌/◌, ◌%◌, ◌≤◌, ◌<◌}
 use native.Mathlib.Omega.{arith}
 use lib.Dec.{leb, ltb}
 use borrow.Author.Tests.{lt-ltb, le-ltb, ltb-true, ltb-false, le-leb, lt-leb, leb-false}
 use Rattle.scope.specs.Limits.{last_year, last_day, kept_months}
 use Rattle.scope.specs.Refusals.{day_range}
-use Rattle.words.proofs.Tests.{neither}
 use Rattle.calendar.specs.Calendar.{Date, on_or_before, date_on, day_of}
 use Rattle.calendar.specs.Calls.{Dated, has_day}
 use Rattle.calendar.specs.Inner.{Small}
@@ -16,7 +15,7 @@ use Rattle.calendar.proofs.Counting.{month_least}
 use Rattle.calendar.proofs.Dates.{Real, real_calendar, small, real_of, day_of_date, date_of_day, earlier_year, order}
 use Rattle.calendar.proofs.Claimed.{in_years, year_most, has_real, has_year}
 use Rattle.calendar.proofs.Answers.{given, not_given, given_day, given_is}
-use Rattle.retention.specs.Keeping.{at_most_last, months_on, last_date, kept_until, Verdict, Verdict.decided, Verdict.refused, keeping}
+use Rattle.retention.specs.Keeping.{at_most_last, months_on, last_date, kept_until, Verdict.decided, Verdict.refused, keeping}
 use Rattle.retention.specs.Laws.{EighteenOn, KeepingLaws}
 use Rattle.retention.proofs.Months.{months, at_month, same_date, months_at}
 
@@ -43,16 +42,6 @@ module _ (today departure : ℕ) where
   departure_out : today ≤ last_day → last_day < departure → keeping today departure ≡ refused day_range
   unfolding keeping
   departure_out h k = rw (le-ltb last_day today h, lt-ltb last_day departure k)
-
-  -- by the test of both
-  pub out_of_range : (ltb last_day today || ltb last_day departure) ≡ true → keeping today departure ≡ refused day_range
-  unfolding keeping
-  out_of_range h = rw h
-
-  pub in_range : (ltb last_day today || ltb last_day departure) ≡ false → (today ≤ last_day) × (departure ≤ last_day)
-  in_range h =
-      let n = neither (ltb last_day today) (ltb last_day departure) h in
-      (ltb-false last_day today n.0, ltb-false last_day departure n.1)
 
   pub keeping_is : today ≤ last_day → departure ≤ last_day → keeping today departure ≡ decided (on_or_before (date_on today) (last_date (date_on departure)))
   unfolding keeping
@@ -123,15 +112,6 @@ pub until_dates : (d : Date) → has_day d ≡ true → kept_until (day_of d) �
 until_dates d k =
     until_is (day_of d) (in_years d (has_real d k) (has_year d k)) ∙ ap (λ (x : Date). Dated.dated (last_date x)) (date_of_day d (has_real d k))
 
--- what a decided answer says of the days
-abbrev IsDecided : Verdict → Type 0
-IsDecided (decided b) = Unit
-IsDecided (refused n) = ⊥
-
-abbrev the_verdict : Verdict → Bool
-the_verdict (decided b) = b
-the_verdict (refused n) = false
-
 module _ (departure : ℕ) (until : Date) (e : kept_until departure ≡ Dated.dated until) where
   dated_departure : departure ≤ last_day
   unfolding kept_until
@@ -152,13 +132,14 @@ module _ (today later departure : ℕ) (e : keeping today departure ≡ decided 
   decided_departure = go (ltb last_day departure) refl
     where
       go : (b : Bool) → ltb last_day departure ≡ b → departure ≤ last_day
-      go true f = absurd (subst IsDecided (sym e ∙ departure_out today departure (omega arith) (ltb-true last_day departure f)) tt)
+      go true f = let q = departure_out today departure (omega arith) (ltb-true last_day departure f) in absurd (cc (e, q))
       go false f = ltb-false last_day departure f
 
   never_again : keeping later departure ≡ decided false
   never_again =
       let n = day_of (last_date (date_on departure)) in
-      let q : leb today n ≡ false = ap the_verdict (sym (by_days today departure (omega arith) decided_departure) ∙ e) in
+      let f = by_days today departure (omega arith) decided_departure in
+      let q : leb today n ≡ false = cc (e, f) in
       by_days later departure k decided_departure ∙ ap decided (lt-leb later n (omega (arith, leb-false today n q)))
 
 to_come : (today departure : ℕ) → today ≤ departure → departure ≤ last_day → keeping today departure ≡ decided true

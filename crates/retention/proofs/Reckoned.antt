@@ -1,7 +1,6 @@
 -- What the code makes of a departure's date: the months counted through from January, and the day cut to the month's last.
 use mathlib.Core.Path.{◌≡◌, sym, ap, subst, ◌∙◌}
-use Prim.Native.Nat.{ℕ, ◌+◌, ◌/◌, ◌%◌, ◌≤◌, ◌<◌, min}
-use native.Mathlib.Omega.{arith}
+use Prim.Native.Nat.{ℕ, ◌+◌, ◌/◌, ◌%◌, ◌≤◌, min}
 use Rattle.scope.specs.Limits.{last_year, last_day}
 use Rattle.calendar.specs.Calendar.{Date, date, month_length, date_on}
 use Rattle.calendar.proofs.Dates.{Real, real_of}
@@ -21,13 +20,8 @@ module _ (departure : ℕ) (h : departure ≤ last_day) (d : Date) (e : d ≡ da
   unfolding at_most_last
   at_until = sym (last_date_at d real) ∙ ap last_date e
 
-  module _ (last : ℕ) (l : last ≡ month_length (d.year + months d / 12) (months d % 12 + 1)) where
-    with_day : (n : ℕ) → n ≡ min d.day last → date (d.year + months d / 12) (months d % 12 + 1) n ≡ last_date (date_on departure)
-    with_day n f =
-        ap (date (d.year + months d / 12) (months d % 12 + 1)) (f ∙ ap (min d.day) l) ∙ at_until
-
-    pub cut : last < d.day → date (d.year + months d / 12) (months d % 12 + 1) last ≡ last_date (date_on departure)
-    cut k = with_day last (omega arith)
-
-    pub uncut : d.day ≤ last → date (d.year + months d / 12) (months d % 12 + 1) d.day ≡ last_date (date_on departure)
-    uncut k = with_day d.day (omega arith)
+  -- the day cut to the month's last
+  pub until : (last day : ℕ) → last ≡ month_length (d.year + months d / 12) (months d % 12 + 1) → day ≡ min d.day last
+      → date (d.year + months d / 12) (months d % 12 + 1) day ≡ last_date (date_on departure)
+  until last day l e =
+      ap (date (d.year + months d / 12) (months d % 12 + 1)) (e ∙ ap (min d.day) l) ∙ at_until

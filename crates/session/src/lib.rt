@@ -199,10 +199,7 @@ pub fn text(s: &mut Session, piece: &[u8], out: &mut [u8]) -> Result<(), Refusal
     if s.text > scope::MOST_TEXT - n {
         return Err(Refusal::TooLong);
     }
-    let far = cipher::steps_number(s.state.count, ceil16(s.text + n) - ceil16(s.text), false);
-    if far != 0 {
-        return Err(Refusal::CountTooHigh);
-    }
+    cipher::steps_allowed(s.state.count, ceil16(s.text + n) - ceil16(s.text), false)?;
     if out.len() < piece.len() {
         return Err(Refusal::ShortOutput);
     }

@@ -12,67 +12,36 @@ ghost use Rattle.start.specs.Leads.{LeadsToState};
 ghost use Rattle.session.specs.Machine.{session_of, Says};
 ghost use Rattle.suspended.specs.Machine.{suspended_of};
 ghost use Rattle.suspend.specs.Calls;
-ghost use Rattle.suspend.specs.Calls.{suspend_call, not_resumed, Revives};
+ghost use Rattle.suspend.specs.Calls.{suspend_call, Revives};
 ghost use Rattle.suspend.specs.Walk.{resume_call};
 ghost use Rattle.suspend.specs.Machine.{resumed_of};
 
 use cipher::State;
-use session::{Said, Session};
-use start::{Mode, Traced};
+use scope::Refusal;
+use session::Session;
+use start::Mode;
 use suspended::Suspended;
 
-// Document 01's park: writes the session's block and hands the session back as it was. Refused: 7 after finish, 4 where the output has less
-// than 512 bytes.
-pub fn suspend(s: Session, out: &mut [u8]) -> Said
-    ensures says { Says (suspend_call (session_of s) out.old) result }
-    ensures out_after { out.new ≡ (suspend_call (session_of s) out.old).out }
+// Document 01's park: writes the session's block; the session is only read. Refused: 7 after finish, 4 where the output has less than 512 bytes.
+pub fn suspend(s: &Session, out: &mut [u8]) -> Result<(), Refusal>
+    ensures says { Says (suspend_call (session_of s.now) out.old) result s.now }
+    ensures out_after { out.new ≡ (suspend_call (session_of s.now) out.old).out }
 {
     if s.phase >= 2 {
-        return Said {
-            answer: scope::OUT_OF_PHASE,
-            session: s,
-        };
+        return Err(Refusal::OutOfPhase);
     }
     if out.len() < 512 {
-        return Said {
-            answer: scope::SHORT_OUTPUT,
-            session: s,
-        };
+        return Err(Refusal::ShortOutput);
     }
-    let state = s.state;
-    let registers = state.registers;
-    let held = s.held;
     let block = suspended::block_of(Suspended {
         phase: s.phase,
         ad: s.ad,
         text: s.text,
-        registers: registers,
-        held: held,
+        registers: s.state.registers,
+        held: s.held,
     });
     fields::copy(&block, 512, out);
-    Said {
-        answer: scope::ACCEPTED,
-        session: s,
-    }
-}
-
-// The answer to a resume: 0 or the refusal's number, the IV, and the session. Where it is refused, the IV is zeros and the session takes no call.
-#[derive(Clone, Copy)]
-pub struct Resumed {
-    pub answer: u64,
-    pub iv: [u8; 16],
-    pub session: Session,
-}
-
-fn refused(n: u64) -> Resumed
-    ensures { resumed_of result ≡ not_resumed n }
-{
-    let session = session::no_session();
-    Resumed {
-        answer: n,
-        iv: [0; 16],
-        session: session,
-    }
+    Ok(())
 }
 
 // The IV's bytes from its two halves.
@@ -90,9 +59,8 @@ pub fn state_of(k: Suspended) -> State
     requires { k.text ≤ most_text }
     ensures { state_of result ≡ Calls.state_for (suspended_of k) }
 {
-    let registers = k.registers;
     State {
-        registers: registers,
+        registers: k.registers,
         count: 2 + session::ceil16(k.text),
     }
 }
@@ -103,57 +71,42 @@ fn revived(key: &[u8], iv: [u8; 16], k: Suspended, state: State, inverse: &[u8; 
     requires { (length key.now ≡ 32) × (state_of state ≡ Calls.state_for (suspended_of k)) × LeadsToState key.now iv sealed (state_of state) × Holds unsub inverse.now }
     ensures { session_of result ≡ Calls.revived key.now iv (suspended_of k) }
 {
-    let held = k.held;
-    let begun = session::begin(key, &iv);
-    let first = begun.session;
-    let h = first.h;
-    let pad = first.pad;
+    let first = session::begin(key, &iv).unwrap();
     let carried = first.iv;
-    let registers = state.registers;
-    let before = cipher::z_before(registers, inverse);
-    let current = before.z;
+    let before = cipher::z_before(state.registers, inverse);
     Session {
         phase: k.phase,
         ad: k.ad,
         text: k.text,
-        state: state,
-        h: h,
-        pad: pad,
-        current: current,
-        held: held,
+        state,
+        h: first.h,
+        pad: first.pad,
+        current: before.z,
+        held: k.held,
         iv: carried,
     }
 }
 
-// Document 01's take up: the session that a block was written for, and its IV. Refused: 1 for the key's length, 8 for a block that breaks a
+// Document 01's take up: the session that a block was written for, which carries its IV. Refused: 1 for the key's length, 8 for a block that breaks a
 // layout rule, 6 where no IV leads to its state in sealed mode.
-pub fn resume(key: &[u8], block: &[u8]) -> Resumed
+pub fn resume(key: &[u8], block: &[u8]) -> Result<Session, Refusal>
     ensures leads { Revives key.now block.now (resumed_of result) }
     ensures walk { resumed_of result ≡ resume_call key.now block.now }
 {
     if key.len() != 32 {
-        return refused(scope::KEY_LENGTH);
+        return Err(Refusal::KeyLength);
     }
     if !layout::well_laid(block) {
-        return refused(scope::BAD_BLOCK);
+        return Err(Refusal::BadBlock);
     }
     let k = suspended::read(block);
     let state = state_of(k);
     let inverse = aes::inverse_sbox();
-    let Traced::Found(o) = start::trace_with(state, key, &inverse) else {
-        return refused(scope::NO_ORIGIN);
+    let Ok(o) = start::trace_with(state, key, &inverse) else {
+        return Err(Refusal::NoOrigin);
     };
-    let mode = o.mode;
-    match mode {
-        Mode::Plain => refused(scope::NO_ORIGIN),
-        Mode::Sealed => {
-            let iv = iv_bytes(o.lo, o.hi);
-            let session = revived(key, iv, k, state, &inverse);
-            Resumed {
-                answer: scope::ACCEPTED,
-                iv: iv,
-                session: session,
-            }
-        }
+    match o.mode {
+        Mode::Plain => Err(Refusal::NoOrigin),
+        Mode::Sealed => Ok(revived(key, iv_bytes(o.lo, o.hi), k, state, &inverse)),
     }
 }

@@ -2,44 +2,13 @@
 ghost use Rattle.std.specs.Prelude.{◌≡◌, length};
 
 use crate::{lent, report, vector};
-use cipher::{Drawn, Registers, State};
-use lfsr::Lfsr;
+use cipher::State;
+use scope::Refusal;
 use std::io;
+use words::Block;
 
 // What an output is filled with before it is lent, so that a byte written to it shows.
 pub const MARK: u8 = 0x5a;
-
-fn same_cells(x: [u16; 16], y: [u16; 16]) -> bool {
-    words::same(cipher::low_half(x), cipher::low_half(y))
-        & words::same(cipher::high_half(x), cipher::high_half(y))
-}
-
-fn same_lfsr(l: Lfsr, m: Lfsr) -> bool {
-    let a = l.a;
-    let b = l.b;
-    let x = m.a;
-    let y = m.b;
-    same_cells(a, x) & same_cells(b, y)
-}
-
-fn same_registers(s: Registers, t: Registers) -> bool {
-    let l = s.lfsr;
-    let m = t.lfsr;
-    let r1 = s.r1;
-    let r2 = s.r2;
-    let r3 = s.r3;
-    let q1 = t.r1;
-    let q2 = t.r2;
-    let q3 = t.r3;
-    same_lfsr(l, m) & words::same(r1, q1) & words::same(r2, q2) & words::same(r3, q3)
-}
-
-// Whether two states have the same registers and the same count.
-pub fn same(s: State, t: State) -> bool {
-    let x = s.registers;
-    let y = t.registers;
-    same_registers(x, y) & (s.count == t.count)
-}
 
 // Whether no byte of a marked output was changed.
 fn unwritten(out: &[u8]) -> bool {
@@ -68,7 +37,13 @@ fn asked(rt: &impl Print, s: State, len: usize, n: usize, back: bool) -> io::Res
     report::text(rt, b" bytes: ")
 }
 
-fn answered(rt: &impl Print, answer: u64, wrote: usize, kept: bool, s: State) -> io::Result<()> {
+fn answered(
+    rt: &impl Print,
+    answer: Result<(), Refusal>,
+    wrote: usize,
+    kept: bool,
+    s: State,
+) -> io::Result<()> {
     report::answer(rt, answer)?;
     report::labelled(rt, b", part of ", wrote as u64)?;
     if kept {
@@ -79,15 +54,15 @@ fn answered(rt: &impl Print, answer: u64, wrote: usize, kept: bool, s: State) ->
     }
 }
 
-// A run, with the length of the part that it hands back. The number lent is none that a run answers with.
+// A run, with the length of the part that it hands back. The answer lent is none that a run gives.
 pub fn run(rt: &impl Print, s: State, out: &mut [u8], n: usize, back: bool) -> io::Result<State>
     ensures { length out.new ≡ length out.old }
 {
     asked(rt, s, out.len(), n, back)?;
-    let mut answer: u64 = 255;
-    let r = lent::run(s, &mut answer, out, n, back);
-    let t = r.state;
-    answered(rt, answer, r.wrote, same(s, t) & unwritten(out), t)?;
+    let mut answer = Err(Refusal::NoKey);
+    let mut t = s;
+    let wrote = lent::measured(&mut t, &mut answer, out, n, back);
+    answered(rt, answer, wrote, s == t && unwritten(out), t)?;
     Ok(t)
 }
 
@@ -102,13 +77,13 @@ pub fn short_run(rt: &impl Print, s: State, n: usize, back: bool) -> io::Result<
     Ok(())
 }
 
-fn drawn(rt: &impl Print, d: Drawn) -> io::Result<()> {
+fn drawn(rt: &impl Print, d: Result<Block, Refusal>) -> io::Result<()> {
     match d {
-        Drawn::Z(z) => {
+        Ok(z) => {
             report::text(rt, b"block ")?;
             report::block(rt, z)
         }
-        Drawn::Refused(n) => report::refused(rt, n),
+        Err(e) => report::refused(rt, e.number()),
     }
 }
 
@@ -116,10 +91,9 @@ pub fn step(rt: &impl Print, s: State, back: bool) -> io::Result<()> {
     report::text(rt, b"step")?;
     way(rt, s, back)?;
     report::text(rt, b": ")?;
-    let w = vector::step(s, back);
-    let t = w.state;
-    drawn(rt, w.drawn)?;
-    if same(s, t) {
+    let mut t = s;
+    drawn(rt, vector::step(&mut t, back))?;
+    if s == t {
         report::text(rt, b", state as it was\n")
     } else {
         to_count(rt, t)

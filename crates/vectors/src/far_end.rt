@@ -55,10 +55,8 @@ fn single_steps(rt: &impl Print, s: State, out: &[u8], back: bool) -> io::Result
     let mut t = s;
     let mut agreed: u64 = 0;
     for i in 0..65538 {
-        let w = vector::step(t, back);
-        t = w.state;
-        let z = words::load(out, 16 * i);
-        if words::same(vector::block(w.drawn), z) {
+        let z = vector::block(vector::step(&mut t, back));
+        if words::same(z, words::load(out, 16 * i)) {
             agreed += 1;
         }
     }
@@ -112,7 +110,7 @@ fn farthest(
 }
 
 fn compared(rt: &impl Print, s: State, t: State, u: State) -> io::Result<()> {
-    if call::same(s, t) & call::same(s, u) {
+    if s == t && s == u {
         report::text(rt, b": the same registers and count\n")
     } else {
         report::text(rt, b": different\n")

@@ -1,4 +1,5 @@
 // What the program writes: text, numbers, and blocks in hex, byte 0 first.
+use scope::Refusal;
 use start::{Mode, Origin, Traced};
 use std::io;
 use std::io::Write;
@@ -54,12 +55,11 @@ pub fn refused(rt: &impl Print, n: u64) -> io::Result<()> {
     labelled(rt, b"refused ", n)
 }
 
-// The number that a run answers with.
-pub fn answer(rt: &impl Print, n: u64) -> io::Result<()> {
-    if n == 0 {
-        text(rt, b"accepted")
-    } else {
-        refused(rt, n)
+// What a run answers.
+pub fn answer(rt: &impl Print, a: Result<(), Refusal>) -> io::Result<()> {
+    match a {
+        Ok(()) => text(rt, b"accepted"),
+        Err(e) => refused(rt, e.number()),
     }
 }
 

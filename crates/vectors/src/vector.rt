@@ -2,7 +2,8 @@
 ghost use Rattle.std.specs.Prelude.{◌≡◌, ◌*◌, ◌≤◌, ◌<◌, length};
 
 use crate::{lent, report};
-use cipher::{Drawn, Registers, State, Stepped};
+use cipher::{Registers, State};
+use scope::Refusal;
 use start::Mode;
 use std::io;
 use words::Block;
@@ -85,13 +86,11 @@ fn after_step(s: Registers, low: Block, step: usize) -> Registers {
 
 // The z of a step forward from these registers, as at a start's count.
 fn first_block(s: Registers) -> Block {
-    let t = State {
+    let mut t = State {
         registers: s,
         count: 0,
     };
-    let w = step(t, false);
-    let d = w.drawn;
-    block(d)
+    block(step(&mut t, false))
 }
 
 // The z of each of the 16 steps of a start in plain mode, from the registers that the start's own loop leads to, one step at a time.
@@ -123,30 +122,30 @@ fn run(s: State, out: &mut [u8], back: bool) -> State
     requires { length out.old ≡ 128 }
     ensures { length out.new ≡ length out.old }
 {
-    let mut answer: u64 = 0;
-    let r = lent::run(s, &mut answer, out, 8, back);
-    r.state
+    let mut answer = Ok(());
+    let mut t = s;
+    lent::measured(&mut t, &mut answer, out, 8, back);
+    t
 }
 
-// One step either way: forward the state is lent, back it goes by value.
-pub fn step(s: State, back: bool) -> Stepped {
+// One step either way: forward the state is lent to the cipher, back it goes by value.
+pub fn step(s: &mut State, back: bool) -> Result<Block, Refusal> {
     if back {
-        return cipher::back_by_value(s);
+        let w = cipher::back_by_value(*s)?;
+        *s = w.state;
+        return Ok(w.z);
     }
-    lent::step(s)
+    cipher::step(s)
 }
 
 // The block that a step answers with. For a refusal one that none of the blocks compared is.
-pub fn block(d: Drawn) -> Block {
-    match d {
-        Drawn::Z(z) => z,
-        Drawn::Refused(_) => Block {
-            w0: 1,
-            w1: 0,
-            w2: 0,
-            w3: 0,
-        },
-    }
+pub fn block(d: Result<Block, Refusal>) -> Block {
+    d.unwrap_or(Block {
+        w0: 1,
+        w1: 0,
+        w2: 0,
+        w3: 0,
+    })
 }
 
 // Eight blocks by single steps.
@@ -156,9 +155,7 @@ fn steps(s: State, out: &mut [u8], back: bool) -> State
 {
     let mut t = s;
     for i in 0..8 {
-        let w = step(t, back);
-        t = w.state;
-        words::store(out, 16 * i, block(w.drawn));
+        words::store(out, 16 * i, block(step(&mut t, back)));
     }
     t
 }

@@ -11,7 +11,7 @@ ghost use Rattle.words.specs.Bytes.{number, little, part, zeros};
 ghost use Rattle.words.specs.Machine.{bytes_of};
 
 // A block: byte 0 is the low byte of `w0`, byte 15 the high byte of `w3`.
-#[derive(Clone, Copy)]
+#[derive(Clone, Copy, PartialEq, Eq)]
 pub struct Block {
     pub w0: u32,
     pub w1: u32,

@@ -16,8 +16,8 @@ module _ (y m d : ℕ) (h : has_day (date y m d) ≡ true) where
   least : (n : ℕ) → to_march (day_of (date y m d)) ≡ n → 306 ≤ n
   least n e = omega (arith, e, march_least (day_of (date y m d)))
 
-  the-day : (n r : ℕ) → to_march (day_of (date y m d)) ≡ n → r ≡ from_march n → r ≡ day_of (date y m d)
-  the-day n r e f = f ∙ ap from_march (sym e) ∙ march_back (day_of (date y m d))
+  the_day : (n r : ℕ) → to_march (day_of (date y m d)) ≡ n → r ≡ from_march n → r ≡ day_of (date y m d)
+  the_day n r e f = f ∙ ap from_march (sym e) ∙ march_back (day_of (date y m d))
 
   early : m < 3 → to_march (day_of (date y m d)) ≡ march_day (y - 2000) (m + 9) d
   early = to_february (date y m d) (has_real (date y m d) h) (has_year (date y m d) h)
@@ -39,7 +39,7 @@ from_march-requires c =
 
 pub returns-then-month-lt3 : goal.returns-then-month-lt3
 returns-then-month-lt3 c =
-    the-day _ _ _ c.requires _ _ (early _ _ _ c.requires (search rules) ∙ sym c.march_day.ensures) c.from_march.ensures
+    the_day _ _ _ c.requires _ _ (early _ _ _ c.requires (search rules) ∙ sym c.march_day.ensures) c.from_march.ensures
 
 pub overflow_sub-year-2 : goal.overflow_sub-year-2
 overflow_sub-year-2 c = omega (arith, (has_real _ c.requires).year_from)
@@ -55,4 +55,4 @@ from_march-requires-2 c =
 
 pub returns : goal.returns
 returns c =
-    the-day _ _ _ c.requires _ _ (late _ _ _ c.requires (search rules) ∙ sym c.march_day-2.ensures) c.from_march-2.ensures
+    the_day _ _ _ c.requires _ _ (late _ _ _ c.requires (search rules) ∙ sym c.march_day-2.ensures) c.from_march-2.ensures

@@ -1,25 +1,27 @@
 -- `key_store::held_block` meets its contract: the page's call seals the stay's key with no data, and both parts go into the block.
-use mathlib.Core.Path.{◌≡◌, ◌∙◌}
-use native.Mathlib.Omega.{arith}
-use borrow.Author.Rules.{rules}
-use lib.ListN.{length}
-use lib.Seq.{take_all}
-use Rattle.key_store.proofs.SealedKeys.{sealed}
+use Rattle.std.proofs.Common.{◌≡◌, length, sym, ap, ◌∙◌, arith, rules, take_all}
+use Rattle.page.specs.Machine.{tag_of}
+use Rattle.key_store.proofs.SealedKeys.{sealed, allowed, accepted}
 use Rattle.key_store.proofs.held_block.Goals as goal
-use Rattle.key_store.proofs.held_block.Goals.{After-seal-p}
+use Rattle.key_store.proofs.held_block.Goals.{After-unwrap-tag}
 
-tag-long : (c : After-seal-p) → length c.seal-p.result.tag ≡ 16
-tag-long c = search rules
+tag_long : (c : After-unwrap-tag) → length c.unwrap-tag.result ≡ 16
+tag_long c = search rules
+
+pub unwrap-tag-requires : goal.unwrap-tag-requires
+unwrap-tag-requires c =
+    accepted c.seal.result
+    (c.seal.ensures.answer ∙ allowed c.args.key.now c.args.iv.now c.args.stay_key.now c.requires.0 c.requires.1 c.requires.2)
 
 pub load-requires-2 : goal.load-requires-2
-load-requires-2 c = omega (arith, tag-long (goal.at.load-requires-2 c).After-seal-p)
+load-requires-2 c = omega (arith, tag_long (goal.at.load-requires-2 c).After-unwrap-tag)
 
 pub returns : goal.returns
 returns c =
     let iv = c.args.iv.now in
     c.block_of.ensures
-    ∙ sealed c.args.key.now iv c.args.stay_key.now _ c.seal-p.result.tag _ _ c.requires.0 c.requires.1 c.requires.2
-    c.seal-p.ensures.out
-    c.seal-p.ensures.tag
+    ∙ sealed c.args.key.now iv c.args.stay_key.now _ c.unwrap-tag.result _ _ c.requires.0 c.requires.1 c.requires.2
+    c.seal.ensures.out
+    (ap tag_of (sym c.unwrap-tag.ensures) ∙ c.seal.ensures.tag)
     (c.load.ensures ∙ take_all 16 iv (omega (arith, c.requires.1)))
-    (c.load-2.ensures ∙ take_all 16 c.seal-p.result.tag (omega (arith, tag-long (goal.at.returns c).After-seal-p)))
+    (c.load-2.ensures ∙ take_all 16 c.unwrap-tag.result (omega (arith, tag_long (goal.at.returns c).After-unwrap-tag)))

@@ -1,9 +1,6 @@
 -- `key_store::look` meets its contract: what it reads of the block is what the block says, and with what was seen before it makes what is known of all.
-use mathlib.Core.Path.{◌≡◌, refl, sym, ap, ◌∙◌}
-use mathlib.Core.List.{List}
-use Prim.Native.Nat.{ℕ, ◌+◌, ◌-◌, ◌*◌}
-use native.Mathlib.Omega.{arith}
-use lib.ListN.{get_or, take, drop}
+use Rattle.std.proofs.Common.{◌≡◌, ℕ, ◌+◌, ◌-◌, ◌*◌, List, get_or, take, drop, refl, sym, ap, ◌∙◌, arith}
+use Rattle.std.specs.Option.{option_or}
 use Rattle.words.specs.Bytes.{same, part}
 use Rattle.words.specs.Machine.{bytes_of}
 use Rattle.fields.specs.Blocks.{cut}
@@ -25,6 +22,6 @@ returns c w g =
     (c.well_laid-laid.ensures ∙ ap (λ (n : ℕ). well_laid (take n (drop (512 * a.i) s))) long)
     c.again-twice.ensures
     refl
-    c.first-empty.ensures
-    c.first-present.ensures
-    c.first-holding.ensures)
+    (c.or.ensures ∙ ap (option_or a.s.empty) c.then_some-empty.ensures)
+    (c.or-2.ensures ∙ ap (option_or a.s.present) c.then_some-present.ensures)
+    (c.or-3.ensures ∙ ap (option_or a.s.holding) c.then_some-holding.ensures))

@@ -1,8 +1,5 @@
 -- `key_store::present` meets its contract: at each turn, what is known is known of the blocks up to there.
-use mathlib.Core.Path.{◌≡◌, ap, ◌∙◌}
-use mathlib.Core.List.{List}
-use Prim.Native.Nat.{ℕ}
-use native.Mathlib.Omega.{arith}
+use Rattle.std.proofs.Common.{◌≡◌, ℕ, List, ap, ◌∙◌, arith}
 use Rattle.words.specs.Bytes.{same}
 use Rattle.words.specs.Machine.{bytes_of}
 use Rattle.fields.specs.Blocks.{cut}
@@ -11,21 +8,18 @@ use Rattle.key_store.proofs.Surveying.{present_none, present_more}
 use Rattle.key_store.proofs.present.Goals as goal
 
 pub loop-i-init : goal.loop-i-init
-loop-i-init c = let a = c.args in (omega arith, present_none (bytes_of a.iv) a.store.now)
+loop-i-init c = let a = c.args in present_none (bytes_of a.iv) a.store.now
 
 pub loop-i-preserved : goal.loop-i-preserved
 loop-i-preserved c =
     let l = c.loop-i in
     let a = c.args in
-    let s = a.store.now in (
-      omega arith,
-      present_more (bytes_of a.iv) s l.i l.found c.same-same.result l.invariant.1
-          (c.same-same.ensures ∙ ap (λ (v : List ℕ). same v (bytes_of a.iv)) c.load.ensures),
-    )
+    present_more (bytes_of a.iv) a.store.now l.i l.found c.same-same.result l.invariant
+    (c.same-same.ensures ∙ ap (λ (v : List ℕ). same v (bytes_of a.iv)) c.load.ensures)
 
 pub returns : goal.returns
 returns c =
     let l = c.loop-i in
     let a = c.args in
-    let e : l.i ≡ a.n = omega (arith, l.invariant.0, c.loop-i-test.false) in
-    l.invariant.1 ∙ ap (λ (k : ℕ). any (present (bytes_of a.iv)) (cut k a.store.now)) e
+    let e : l.i ≡ a.n = omega arith in
+    l.invariant ∙ ap (λ (k : ℕ). any (present (bytes_of a.iv)) (cut k a.store.now)) e

@@ -1,40 +1,62 @@
 -- `key_store::store` meets its contract, by what it finds in the order of its refusals.
-use mathlib.Core.Path.{ap, ◌∙◌}
-use mathlib.Core.List.{List}
-use Prim.Native.Nat.{ℕ}
+use Rattle.std.proofs.Common.{ℕ, List, sym, ap, ◌∙◌}
+use Rattle.std.proofs.lemmas.Result.{err_from_is_err_and}
 use Rattle.fields.specs.Blocks.{replaced}
-use Rattle.key_store.proofs.Numbers.{store_key, store_stay_key, store_iv, store_broken, store_there, store_full, store_placed}
+use Rattle.key_store.proofs.Numbers.{none_given, store_key, store_stay_key, store_iv, store_broken, store_there, store_full, store_placed, empty_inside}
 use Rattle.key_store.proofs.store.Goals as goal
 
 pub returns-then-key-ne32 : goal.returns-then-key-ne32
-returns-then-key-ne32 c = let p = (let a = c.args in
-    store_key a.key.now a.iv.now a.stay_key.now a.store.now c.if-key-ne32.true) in record { answer = p.0; store = p.1 }
+returns-then-key-ne32 c =
+    let a = c.args in
+    let p = store_key a.key.now a.iv.now a.stay_key.now a.store.now c.if-key-ne32.true in record { answer = p.0; store = p.1 }
 
 pub returns-then-stay_key-ne32 : goal.returns-then-stay_key-ne32
-returns-then-stay_key-ne32 c = let p = (let a = c.args in
-    store_stay_key a.key.now a.iv.now a.stay_key.now a.store.now c.if-key-ne32.false c.if-stay_key-ne32.true) in record { answer = p.0; store = p.1 }
+returns-then-stay_key-ne32 c =
+    let a = c.args in
+    let p = store_stay_key a.key.now a.iv.now a.stay_key.now a.store.now c.if-key-ne32.false c.if-stay_key-ne32.true in
+    record { answer = p.0; store = p.1 }
 
 pub returns-then-iv-ne16 : goal.returns-then-iv-ne16
-returns-then-iv-ne16 c = let p = (let a = c.args in
-    store_iv a.key.now a.iv.now a.stay_key.now a.store.now c.if-key-ne32.false c.if-stay_key-ne32.false c.if-iv-ne16.true) in record { answer = p.0; store = p.1 }
+returns-then-iv-ne16 c =
+    let a = c.args in
+    let p = store_iv a.key.now a.iv.now a.stay_key.now a.store.now c.if-key-ne32.false c.if-stay_key-ne32.false c.if-iv-ne16.true in
+    record { answer = p.0; store = p.1 }
 
 pub returns-then-not-s : goal.returns-then-not-s
-returns-then-not-s c = let p = (let a = c.args in
+returns-then-not-s c =
+    let a = c.args in
+    let p =
     store_broken a.key.now a.iv.now a.stay_key.now a.store.now c.if-key-ne32.false c.if-stay_key-ne32.false c.if-iv-ne16.false
-    c.survey-s.result c.survey-s.ensures c.if-not-s.true) in record { answer = p.0; store = p.1 }
+    c.survey-s.result c.survey-s.ensures c.if-not-s.true in
+    record { answer = p.0; store = p.1 }
 
-pub returns-then-s-store : goal.returns-then-s-store
-returns-then-s-store c = let p = (let a = c.args in
+pub returns-then-is_some : goal.returns-then-is_some
+returns-then-is_some c =
+    let a = c.args in
+    let p =
     store_there a.key.now a.iv.now a.stay_key.now a.store.now c.if-key-ne32.false c.if-stay_key-ne32.false c.if-iv-ne16.false
-    c.survey-s.result c.survey-s.ensures c.if-not-s.false c.if-s-store.true) in record { answer = p.0; store = p.1 }
+    c.survey-s.result c.survey-s.ensures c.if-not-s.false (sym c.is_some.ensures ∙ c.if-is_some.true) in
+    record { answer = p.0; store = p.1 }
 
-pub returns-then-s-store-2 : goal.returns-then-s-store-2
-returns-then-s-store-2 c = let p = (let a = c.args in
+pub returns-in_err-i : goal.returns-in_err-i
+returns-in_err-i c =
+    let a = c.args in
+    let q = err_from_is_err_and c.from_residual.result c.from_residual.ensures.1 in
+    let n = none_given c.survey-s.result.empty c.in_err-i.ensures.value in
+    let p =
     store_full a.key.now a.iv.now a.stay_key.now a.store.now c.if-key-ne32.false c.if-stay_key-ne32.false c.if-iv-ne16.false
-    c.survey-s.result c.survey-s.ensures c.if-not-s.false c.if-s-store.false c.if-s-store-2.true) in record { answer = p.0; store = p.1 }
+    c.survey-s.result c.survey-s.ensures c.if-not-s.false (sym c.is_some.ensures ∙ c.if-is_some.false) n.0 in
+    record { answer = rw (q.1, q.2, n.1) p.0; store = p.1 }
+
+pub put_block-requires : goal.put_block-requires
+put_block-requires c =
+    empty_inside c.args.iv.now c.args.store.now c.survey-s.result c.survey-s.ensures c.in_ok-i.i c.in_ok-i.ensures.ok_part
 
 pub returns : goal.returns
-returns c = let p = (let a = c.args in
+returns c =
+    let a = c.args in
+    let p =
     store_placed a.key.now a.iv.now a.stay_key.now a.store.now c.if-key-ne32.false c.if-stay_key-ne32.false c.if-iv-ne16.false
-    c.survey-s.result c.survey-s.ensures c.if-not-s.false c.if-s-store.false c.if-s-store-2.false _
-    (c.put_block.ensures ∙ ap (λ (b : List ℕ). replaced c.survey-s.result.empty b a.store.now) c.held_block-block.ensures)) in record { answer = p.0; store = p.1 }
+    c.survey-s.result c.survey-s.ensures c.if-not-s.false (sym c.is_some.ensures ∙ c.if-is_some.false) c.in_ok-i.i c.in_ok-i.ensures.ok_part
+    (c.put_block.ensures ∙ ap (λ (b : List ℕ). replaced c.in_ok-i.i b a.store.now) c.held_block.ensures) in
+    record { answer = p.0; store = p.1 }

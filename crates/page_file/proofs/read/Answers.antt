@@ -1,102 +1,93 @@
 -- `page_file::read` meets its contract, by what it finds in the order of its refusals; the page that it reads is the one at the place surveyed.
-use mathlib.Core.Path.{◌≡◌, sym, ap, subst, ◌∙◌}
-use mathlib.Core.List.{List}
-use Prim.Native.Nat.{ℕ, ◌+◌, ◌-◌, ◌*◌, ◌≤◌}
-use native.Mathlib.Omega.{arith}
-use borrow.Author.Rules.{rules}
-use borrow.Author.Tests.{not-true, not-false}
-use lib.ListN.{length, take, drop}
+use Rattle.std.proofs.Common.{◌≡◌, ℕ, ◌+◌, ◌-◌, ◌*◌, ◌≤◌, List, length, take, drop, Option, Some, None, Err, refl, sym, ap, subst, ◌∙◌, arith, rules}
+use Rattle.std.specs.Option.{ok_or}
+use Rattle.std.proofs.lemmas.Result.{err_from_is_err_and}
 use Rattle.scope.specs.Limits.{most_page_text}
+use Rattle.scope.specs.declared.Refusal.{Refusal}
+use Rattle.scope.specs.declared.Refusal.TheVariants.{BadStay}
 use Rattle.words.specs.Bytes.{part}
 use Rattle.words.proofs.Parts.{part_long}
 use Rattle.page_file.specs.Layout.{text_length}
 use Rattle.page_file.specs.Calls.{page_open_number, page_of}
 use Rattle.page_file.specs.Inner.{Finds}
-use Rattle.page_file.proofs.Reading.{finds_none}
-use Rattle.page_file.proofs.Opening.{no_key, no_stay, not_whole, out_of_range, incomplete, inside, page_found, fits, by_page}
+use Rattle.page_file.proofs.Opening.{no_key, no_stay, not_whole, out_of_range, disordered, no_place, Found, place_found}
 use Rattle.page_file.proofs.read.Goals as goal
-use Rattle.page_file.proofs.read.Goals.{Else-not-n-s}
+use Rattle.page_file.proofs.read.Goals.{In_ok-at}
 
 pub returns-then-key-ne32 : goal.returns-then-key-ne32
 returns-then-key-ne32 c =
-    let a = c.args in
-    finds_none a.key.now _ c.refused.result c.refused.ensures (no_key a.key.now a.stay.now a.n a.file.now a.room c.if-key-ne32.true) (λ z. omega arith)
+    let a = c.args in no_key a.key.now a.stay.now a.n a.file.now a.room c.if-key-ne32.true
 
 pub returns-then-stay-ne12 : goal.returns-then-stay-ne12
 returns-then-stay-ne12 c =
-    let a = c.args in
-    finds_none a.key.now _ c.refused-then-stay-ne12.result c.refused-then-stay-ne12.ensures
-    (no_stay a.key.now a.stay.now a.n a.file.now a.room c.if-key-ne32.false c.if-stay-ne12.true) (λ z. omega arith)
+    let a = c.args in no_stay a.key.now a.stay.now a.n a.file.now a.room c.if-key-ne32.false c.if-stay-ne12.true
 
 pub returns-then-file-ne0 : goal.returns-then-file-ne0
 returns-then-file-ne0 c =
-    let a = c.args in
-    finds_none a.key.now _ c.refused-then-file-ne0.result c.refused-then-file-ne0.ensures
-    (not_whole a.key.now a.stay.now a.n a.file.now a.room c.if-key-ne32.false c.if-stay-ne12.false c.if-file-ne0.true) (λ z. omega arith)
+    let a = c.args in not_whole a.key.now a.stay.now a.n a.file.now a.room c.if-key-ne32.false c.if-stay-ne12.false c.if-file-ne0.true
 
 pub returns-then-not-s : goal.returns-then-not-s
 returns-then-not-s c =
     let a = c.args in
-    finds_none a.key.now _ c.refused-then-not-s.result c.refused-then-not-s.ensures
-    (out_of_range a.key.now a.stay.now a.n a.file.now a.room c.if-key-ne32.false c.if-stay-ne12.false c.if-file-ne0.false
-    c.survey-s.result c.survey-s.ensures (not-true c.survey-s.result.ranged c.if-not-s.true)) (λ z. omega arith)
+    out_of_range a.key.now a.stay.now a.n a.file.now a.room c.if-key-ne32.false c.if-stay-ne12.false c.if-file-ne0.false
+    c.survey-s.result c.survey-s.ensures c.if-not-s.true
 
-pub returns-then-not-n-s : goal.returns-then-not-n-s
-returns-then-not-n-s c =
+pub returns-then-not-s-2 : goal.returns-then-not-s-2
+returns-then-not-s-2 c =
     let a = c.args in
-    finds_none a.key.now _ c.refused-then-not-n-s.result c.refused-then-not-n-s.ensures
-    (incomplete a.key.now a.stay.now a.n a.file.now a.room c.if-key-ne32.false c.if-stay-ne12.false c.if-file-ne0.false
-    c.survey-s.result c.survey-s.ensures (not-false c.survey-s.result.ranged c.if-not-s.false) c.if-not-n-s.true) (λ z. omega arith)
+    disordered a.key.now a.stay.now a.n a.file.now a.room c.if-key-ne32.false c.if-stay-ne12.false c.if-file-ne0.false
+    c.survey-s.result c.survey-s.ensures c.if-not-s.false c.if-not-s-2.true
+
+-- a place that is lacking is answered with the error given for it
+none_given : (o : Option ℕ) (e : Refusal) → Err e ≡ ok_or o BadStay → (o ≡ None) × (e ≡ BadStay)
+none_given None e h = (refl, cc)
+none_given (Some j) e h = cc
+
+pub returns-in_err-at : goal.returns-in_err-at
+returns-in_err-at c =
+    let a = c.args in
+    let p = err_from_is_err_and c.from_residual.result c.from_residual.ensures.1 in
+    let q = none_given c.survey-s.result.place c.in_err-at.field-0.0 c.in_err-at.ensures.value in
+    rw (p.1, p.2, q.1)
+    (no_place a.key.now a.stay.now a.n a.file.now a.room c.if-key-ne32.false c.if-stay-ne12.false c.if-file-ne0.false
+    c.survey-s.result c.survey-s.ensures c.if-not-s.false q.0)
 
 -- ---- with the page found
 
-abbrev file-in : Else-not-n-s → List ℕ
-file-in c = c.args.file.now
-
-abbrev place_in : Else-not-n-s → ℕ
-place_in c = c.survey-s.result.place
-
-at_place : (c : Else-not-n-s) → 512 * place_in c + 512 ≤ length (file-in c)
-at_place c =
+found : (c : In_ok-at) → Found c.args.key.now c.args.stay.now c.args.n c.args.file.now c.args.room c.in_ok-at.field-0
+found c =
     let a = c.args in
-    inside a.key.now a.stay.now a.n a.file.now a.room c.if-key-ne32.false c.if-stay-ne12.false c.if-file-ne0.false
-    c.survey-s.result c.survey-s.ensures (not-false c.survey-s.result.ranged c.if-not-s.false) c.if-not-n-s.false
+    place_found a.key.now a.stay.now a.n a.file.now a.room c.if-key-ne32.false c.if-stay-ne12.false c.if-file-ne0.false
+    c.survey-s.result c.survey-s.ensures c.if-not-s.false c.if-not-s-2.false c.in_ok-at.field-0 c.in_ok-at.ensures.ok_part
 
 -- the part that is lent
-lent : (c : Else-not-n-s) → take (512 * place_in c + 512 - 512 * place_in c) (drop (512 * place_in c) (file-in c)) ≡ part (512 * place_in c) 512 (file-in c)
-lent c = ap (λ (k : ℕ). take k (drop (512 * place_in c) (file-in c))) (let e : 512 * place_in c + 512 - 512 * place_in c ≡ 512 = omega arith in e)
-
-short : (c : Else-not-n-s) → text_length (part (512 * place_in c) 512 (file-in c)) ≤ most_page_text
-short c =
-    let a = c.args in
-    fits a.key.now a.stay.now a.n a.file.now a.room c.if-key-ne32.false c.if-stay-ne12.false c.if-file-ne0.false
-    c.survey-s.result c.survey-s.ensures (not-false c.survey-s.result.ranged c.if-not-s.false) c.if-not-n-s.false
+lent : (f : List ℕ) (i : ℕ) → take (512 * i + 512 - 512 * i) (drop (512 * i) f) ≡ part (512 * i) 512 f
+lent f i = ap (λ (k : ℕ). take k (drop (512 * i) f)) (let e : 512 * i + 512 - 512 * i ≡ 512 = omega arith in e)
 
 pub read_page-requires : goal.read_page-requires
-read_page-requires c = (
-  c.if-key-ne32.false,
-  ap length (lent (goal.at.read_page-requires c).Else-not-n-s) ∙ part_long c.args.file.now (512 * c.survey-s.result.place) 512 (at_place (goal.at.read_page-requires c).Else-not-n-s),
-  subst (λ (b : List ℕ). text_length b ≤ most_page_text) (sym (lent (goal.at.read_page-requires c).Else-not-n-s)) (short (goal.at.read_page-requires c).Else-not-n-s),
-)
+read_page-requires c =
+    let g = found (goal.at.read_page-requires c).In_ok-at in
+    let f = c.args.file.now in
+    let j = c.in_ok-at.field-0 in (
+      c.if-key-ne32.false,
+      ap length (lent f j) ∙ part_long f (512 * j) 512 g.inside,
+      subst (λ (b : List ℕ). text_length b ≤ most_page_text) (sym (lent f j)) g.fits,
+    )
 
 pub returns : goal.returns
 returns c =
     let a = c.args in
     let key = a.key.now in
-    let stay = a.stay.now in
     let f = a.file.now in
-    let found = page_found key stay a.n f a.room c.if-key-ne32.false c.if-stay-ne12.false c.if-file-ne0.false
-    c.survey-s.result c.survey-s.ensures (not-false c.survey-s.result.ranged c.if-not-s.false) c.if-not-n-s.false in
-    let number = by_page key stay a.n f a.room c.if-key-ne32.false c.if-stay-ne12.false c.if-file-ne0.false
-    c.survey-s.result c.survey-s.ensures (not-false c.survey-s.result.ranged c.if-not-s.false) c.if-not-n-s.false in
-    subst (λ (m : ℕ). Finds m key (page_of stay a.n f) c.read_page.result) number
-    (subst (λ (b : List ℕ). Finds (page_open_number key b a.room) key b c.read_page.result) (lent (goal.at.returns c).Else-not-n-s ∙ found) c.read_page.ensures)
+    let g = found (goal.at.returns c).In_ok-at in
+    subst (λ (m : ℕ). Finds m key (page_of a.stay.now a.n f) c.read_page.result) g.number
+    (subst (λ (b : List ℕ). Finds (page_open_number key b a.room) key b c.read_page.result) (lent f c.in_ok-at.field-0 ∙ g.page) c.read_page.ensures)
 
 pub overflow_mul-at : goal.overflow_mul-at
-overflow_mul-at c = let h = at_place (goal.at.overflow_mul-at c).Else-not-n-s in search rules
+overflow_mul-at c = let h = (found (goal.at.overflow_mul-at c).In_ok-at).inside in search rules
 
 pub overflow_add-at : goal.overflow_add-at
-overflow_add-at c = let h = at_place (goal.at.overflow_add-at c).Else-not-n-s in search rules
+overflow_add-at c = let h = (found (goal.at.overflow_add-at c).In_ok-at).inside in search rules
 
 pub slice_bounds-read_page-end : goal.slice_bounds-read_page-end
-slice_bounds-read_page-end c = at_place (goal.at.slice_bounds-read_page-end c).Else-not-n-s
+slice_bounds-read_page-end c = (found (goal.at.slice_bounds-read_page-end c).In_ok-at).inside

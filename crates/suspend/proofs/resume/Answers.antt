@@ -5,6 +5,7 @@ use mathlib.Core.List.{List, ◌++◌}
 use Prim.Native.Nat.{ℕ, ◌≤◌}
 use Rattle.scope.specs.Limits.{most_text}
 use Rattle.words.specs.Bytes.{little}
+use Rattle.words.proofs.Rows.{Below}
 use Rattle.words.proofs.Typed.{known_bytes}
 use Rattle.cipher.specs.State.{State}
 use Rattle.cipher.specs.Machine.{state_of}
@@ -20,25 +21,23 @@ use Rattle.suspend.specs.Calls.{state_for, Resumed, revived, Revives}
 use Rattle.suspend.specs.Walk.{resume_call}
 use Rattle.suspend.proofs.Resuming.{revives, resume_bad_key, resume_bad_block, resume_refused, resume_plain, resume_sealed}
 use Rattle.suspend.proofs.resume.Goals as goal
-use Rattle.suspend.proofs.resume.Goals.{After-shared_slice_known-2-1, After-trace_with, Else-not-well_laid}
+use Rattle.suspend.proofs.resume.Goals.{After-trace_with, Else-not-well_laid}
 
 -- both clauses, of an answer that is the walk's
-both : {r : Resumed} (c : After-shared_slice_known-2-1) → let a = c.args in r ≡ resume_call a.key.now a.block.now
-    → Revives a.key.now a.block.now r × (r ≡ resume_call a.key.now a.block.now)
-both c e =
-    let a = c.args in
-    let k = known_bytes a.key.now c.type_inv.key in
-    let b = known_bytes a.block.now c.type_inv.block in
-    (subst (Revives a.key.now a.block.now) (sym e) (revives a.key.now a.block.now k b), e)
+answered : (key b : List ℕ) {r : Resumed} → Below 256 key → Below 256 b → r ≡ resume_call key b → Revives key b r × (r ≡ resume_call key b)
+answered key b k l e = (subst (Revives key b) (sym e) (revives key b k l), e)
 
 pub returns-then-key-ne32 : goal.returns-then-key-ne32
-returns-then-key-ne32 c = let p = (let a = c.args in
-    both (goal.at.returns-then-key-ne32 c).After-shared_slice_known-2-1 (c.refused.ensures ∙ resume_bad_key a.key.now a.block.now c.if-key-ne32.true)) in record { leads = p.0; walk = p.1 }
+returns-then-key-ne32 c =
+    let p = answered _ _ (known_bytes _ c.type_inv.key) (known_bytes _ c.type_inv.block) (resume_bad_key c.args.key.now c.args.block.now c.if-key-ne32.true) in
+    record { leads = p.0; walk = p.1 }
 
 pub returns-then-not-well_laid : goal.returns-then-not-well_laid
-returns-then-not-well_laid c = let p = (let a = c.args in
+returns-then-not-well_laid c =
     let e = sym c.well_laid.ensures ∙ c.if-not-well_laid.true in
-    both (goal.at.returns-then-not-well_laid c).After-shared_slice_known-2-1 (c.refused-then-not-well_laid.ensures ∙ resume_bad_block a.key.now a.block.now c.if-key-ne32.false e)) in record { leads = p.0; walk = p.1 }
+    let p = answered _ _ (known_bytes _ c.type_inv.key) (known_bytes _ c.type_inv.block)
+    (resume_bad_block c.args.key.now c.args.block.now c.if-key-ne32.false e) in
+    record { leads = p.0; walk = p.1 }
 
 -- the block obeys the rules
 laid : (c : Else-not-well_laid) → well_laid c.args.block.now ≡ true
@@ -58,33 +57,42 @@ walked c =
     c.trace_with.ensures.walk ∙ ap (λ (s : State). trace s a.key.now) (c.state_of-state.ensures ∙ ap state_for c.read-k.ensures)
 
 pub returns-in_default : goal.returns-in_default
-returns-in_default c = let p = (let a = c.args in
-    both (goal.at.returns-in_default c).After-shared_slice_known-2-1
-    (c.refused-in_default.ensures ∙ resume_refused a.key.now a.block.now c.if-key-ne32.false (laid (goal.at.returns-in_default c).Else-not-well_laid) (walked (goal.at.returns-in_default c).After-trace_with) _ (ap traced_of c.in_default.is))) in record { leads = p.0; walk = p.1 }
+returns-in_default c =
+    let p = answered _ _ (known_bytes _ c.type_inv.key) (known_bytes _ c.type_inv.block)
+    (resume_refused c.args.key.now c.args.block.now c.if-key-ne32.false (laid (goal.at.returns-in_default c).Else-not-well_laid)
+    (walked (goal.at.returns-in_default c).After-trace_with) _ (ap traced_of c.in_default.is)) in
+    record { leads = p.0; walk = p.1 }
 
 pub returns-in-Plain : goal.returns-in-Plain
-returns-in-Plain c = let p = (let a = c.args in
-    let iv = little 8 c.in-Found.o.lo ++ little 8 c.in-Found.o.hi in
-    let e = ap traced_of c.in-Found.is ∙ ap (λ m. origin iv (mode_of m)) c.in-Plain.is in
-    both (goal.at.returns-in-Plain c).After-shared_slice_known-2-1 (c.refused-in-Plain.ensures ∙ resume_plain a.key.now a.block.now c.if-key-ne32.false (laid (goal.at.returns-in-Plain c).Else-not-well_laid) (walked (goal.at.returns-in-Plain c).After-trace_with) iv e)) in record { leads = p.0; walk = p.1 }
+returns-in-Plain c =
+    let iv = little 8 c.in-Ok.o.lo ++ little 8 c.in-Ok.o.hi in
+    let e = ap traced_of c.in-Ok.is ∙ ap (λ m. origin iv (mode_of m)) c.in-Plain.is in
+    let p = answered _ _ (known_bytes _ c.type_inv.key) (known_bytes _ c.type_inv.block)
+    (resume_plain c.args.key.now c.args.block.now c.if-key-ne32.false (laid (goal.at.returns-in-Plain c).Else-not-well_laid)
+    (walked (goal.at.returns-in-Plain c).After-trace_with) iv e) in
+    record { leads = p.0; walk = p.1 }
 
-pub revived-session-requires : goal.revived-session-requires
-revived-session-requires c =
+pub revived-requires : goal.revived-requires
+revived-requires c =
     let a = c.args in
-    let iv = little 8 c.in-Found.o.lo ++ little 8 c.in-Found.o.hi in
-    let e = ap traced_of c.in-Found.is ∙ ap (λ m. origin iv (mode_of m)) c.in-Sealed.is in
+    let iv = little 8 c.in-Ok.o.lo ++ little 8 c.in-Ok.o.hi in
+    let e = ap traced_of c.in-Ok.is ∙ ap (λ m. origin iv (mode_of m)) c.in-Sealed.is in
     let l = (c.trace_with.ensures.leads.found iv sealed).0 e in (
       l.0.0,
       c.state_of-state.ensures,
-      subst (λ (u : List ℕ). LeadsToState a.key.now u sealed (state_of c.state_of-state.result)) (sym c.iv_bytes-iv.ensures) l.1,
+      subst (λ (u : List ℕ). LeadsToState a.key.now u sealed (state_of c.state_of-state.result)) (sym c.iv_bytes.ensures) l.1,
       c.inverse_sbox-inverse.ensures,
     )
 
 pub returns-in-Sealed : goal.returns-in-Sealed
-returns-in-Sealed c = let p = (let a = c.args in
-    let iv = little 8 c.in-Found.o.lo ++ little 8 c.in-Found.o.hi in
-    let e = ap traced_of c.in-Found.is ∙ ap (λ m. origin iv (mode_of m)) c.in-Sealed.is in
-    both (goal.at.returns-in-Sealed c).After-shared_slice_known-2-1
-    (ap₂ (λ (u : List ℕ) (s : Session). record { number = 0; iv = u; session = s }) c.iv_bytes-iv.ensures
-    (c.revived-session.ensures ∙ ap₂ (revived a.key.now) c.iv_bytes-iv.ensures c.read-k.ensures)
-    ∙ resume_sealed a.key.now a.block.now c.if-key-ne32.false (laid (goal.at.returns-in-Sealed c).Else-not-well_laid) (walked (goal.at.returns-in-Sealed c).After-trace_with) iv e)) in record { leads = p.0; walk = p.1 }
+unfolding revived
+returns-in-Sealed c =
+    let a = c.args in
+    let iv = little 8 c.in-Ok.o.lo ++ little 8 c.in-Ok.o.hi in
+    let e = ap traced_of c.in-Ok.is ∙ ap (λ m. origin iv (mode_of m)) c.in-Sealed.is in
+    let s = c.revived.ensures ∙ ap₂ (revived a.key.now) c.iv_bytes.ensures c.read-k.ensures in
+    let p = answered _ _ (known_bytes _ c.type_inv.key) (known_bytes _ c.type_inv.block)
+    (ap (λ (s : Session). record { number = 0; iv = s.iv; session = s }) s
+    ∙ resume_sealed a.key.now a.block.now c.if-key-ne32.false (laid (goal.at.returns-in-Sealed c).Else-not-well_laid)
+    (walked (goal.at.returns-in-Sealed c).After-trace_with) iv e) in
+    record { leads = p.0; walk = p.1 }

@@ -15,7 +15,7 @@ pub returns-then-s-ge2 : goal.returns-then-s-ge2
 unfolding suspend_call
 returns-then-s-ge2 c =
     let a = c.args in
-    let s = session_of a.s in
+    let s = session_of a.s.now in
     let out = a.out.now in
     let h = c.if-s-ge2.true in
     record { says = record { number = sym (finished_number s out h); session = refl }; out_after = finished_out s out h }
@@ -24,7 +24,7 @@ pub returns-then-out-lt512 : goal.returns-then-out-lt512
 unfolding suspend_call
 returns-then-out-lt512 c =
     let a = c.args in
-    let s = session_of a.s in
+    let s = session_of a.s.now in
     let out = a.out.now in
     let h = c.if-s-ge2.false in
     let k = c.if-out-lt512.true in
@@ -34,7 +34,7 @@ pub returns : goal.returns
 unfolding suspend_call
 returns c =
     let a = c.args in
-    let s = session_of a.s in
+    let s = session_of a.s.now in
     let out = a.out.now in
     let h = c.if-s-ge2.false in
     let k = c.if-out-lt512.false in record { says = record { number = sym (accepted_number s out h k); session = refl }; out_after = c.copy.ensures ∙ ap (λ (l : List ℕ). l ++ drop 512 out) (take_all 512 c.block_of-block.result (let n : length c.block_of-block.result ≡ 512 = search rules in omega arith) ∙ c.block_of-block.ensures) ∙ accepted_out s out h k }

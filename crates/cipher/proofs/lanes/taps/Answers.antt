@@ -14,12 +14,6 @@ loop-i-init c =
     let a = c.args in
     (search rules, clocked_none (lfsr_of a.l), tapped_none (lfsr_of a.l) a.t1.now a.t2.now c.requires.1 c.requires.2)
 
-pub leave-requires : goal.leave-requires
-leave-requires c = let l = c.loop-i in (l.invariant.2.long1, omega arith, search rules)
-
-pub leave-requires-in-loop-i : goal.leave-requires-in-loop-i
-leave-requires-in-loop-i c = let l = c.loop-i in (l.invariant.2.long2, omega arith, search rules)
-
 pub loop-i-preserved : goal.loop-i-preserved
 loop-i-preserved c =
     let l = c.loop-i in

@@ -1,7 +1,7 @@
--- `cipher::steps_number` meets its contract, test by test.
+-- `cipher::steps_allowed` meets its contract, test by test.
 use mathlib.Core.Path.{sym}
 use Rattle.cipher.proofs.Counting.{far_count, far_run, far_on, goes_on, far_back, goes_back}
-use Rattle.cipher.proofs.steps_number.Goals as goal
+use Rattle.cipher.proofs.steps_allowed.Goals as goal
 
 pub returns-then-count-gt-MOST_BLOCKS : goal.returns-then-count-gt-MOST_BLOCKS
 returns-then-count-gt-MOST_BLOCKS c = let a = c.args in sym (far_count a.n a.count a.back c.if-count-gt-MOST_BLOCKS.true)

@@ -1,6 +1,6 @@
--- `search::range_number` meets its contract, test by test.
+-- `search::range_allowed` meets its contract, test by test.
 use Rattle.search.proofs.Numbers.{bad_key, bad_dump, too_far, bad_order, in_order}
-use Rattle.search.proofs.range_number.Goals as goal
+use Rattle.search.proofs.range_allowed.Goals as goal
 
 pub returns-then-key-ne32 : goal.returns-then-key-ne32
 returns-then-key-ne32 c = let a = c.args in bad_key a.dump.now a.key.now a.lowest a.highest c.if-key-ne32.true

@@ -1,6 +1,0 @@
--- `cipher::refused` meets its contract.
-use mathlib.Core.Path.{refl}
-use Rattle.cipher.proofs.refused.Goals as goal
-
-pub returns : goal.returns
-returns c = (refl, refl)
