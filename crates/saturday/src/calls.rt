@@ -17,10 +17,8 @@ pub fn calls(
     rests: &mut [u8; 256],
     row: &[u8],
 ) -> io::Result<()> {
-    let mut i: usize = 0;
-    while i < row.len() {
-        call(rt, s, rests, row[i])?;
-        i += 1;
+    for c in row {
+        call(rt, s, rests, *c)?;
     }
     Ok(())
 }

@@ -5,8 +5,8 @@ use std::io;
 pub fn lines(rt: &impl Print) -> io::Result<()> {
     let mut s = [0xffu8; 8208];
     turns::next(rt, &s)?;
-    joins::with(rt, b"made-up bytes", &mut s, 8208, 32, 16, 1)?;
-    refused::with(rt, b"made-up bytes", &mut s, 8208, 4096, 4096)?;
+    joins::with(rt, "made-up bytes", &mut s, 8208, 32, 16, 1)?;
+    refused::with(rt, "made-up bytes", &mut s, 8208, 4096, 4096)?;
     let mut copy = refused::at(s, 0);
-    refused::with(rt, b"a made-up session", &mut copy, 8208, 4096, 4096)
+    refused::with(rt, "a made-up session", &mut copy, 8208, 4096, 4096)
 }

@@ -11,17 +11,18 @@ mod report;
 mod stays;
 mod turns;
 
+use report::Hex;
 use std::io;
 
 // What has left has left no byte behind the head.
 fn left_behind(rt: &impl Print, s: [u8; 8208]) -> io::Result<()> {
-    report::text(rt, b"head: ")?;
-    report::hex(rt, &s[0..16])?;
-    if fields::all_zero(&s, 16, 8192) {
-        report::text(rt, b"\nnot zero behind it: 0\n")
+    println!(rt; "head: {}", Hex(&s[0..16]))?;
+    let rest = if fields::all_zero(&s, 16, 8192) {
+        "0"
     } else {
-        report::text(rt, b"\nnot zero behind it: some\n")
-    }
+        "some"
+    };
+    println!(rt; "not zero behind it: {rest}")
 }
 
 // At an empty scheduler again, and at a copy that has done all its turns.
@@ -37,7 +38,8 @@ fn afterwards(rt: &impl Print, s: [u8; 8208], rests: [u8; 256]) -> io::Result<()
 fn main(rt: HostRuntime) -> io::Result<()> {
     let mut s = [0xa5u8; 8208];
     let mut rests = [0u8; 256];
-    scheduler::empty(&mut s);
+    // Not refused: the buffer has room.
+    let _ = scheduler::empty(&mut s);
     calls::calls(&rt, &mut s, &mut rests, b"nt")?;
     joins::refused(&rt, &mut s)?;
     calls::calls(

@@ -1,7 +1,7 @@
 // Turns that are refused, and the last number of a turn.
 ghost use Rattle.std.specs.Prelude.{◌<◌, ◌≤◌, length};
 
-use crate::{calls, report, stays};
+use crate::{calls, stays};
 use std::io;
 
 // A copy of a scheduler that has done so many turns.
@@ -14,7 +14,7 @@ pub fn at(s: [u8; 8208], turns: u64) -> [u8; 8208] {
 // What a turn is answered with so many bytes of a scheduler, and a piece and an output of these lengths.
 pub fn with(
     rt: &impl Print,
-    label: &[u8],
+    label: &str,
     s: &mut [u8],
     n: usize,
     piece: usize,
@@ -24,13 +24,12 @@ pub fn with(
 {
     let text = stays::text(0);
     let mut room = [0u8; 4097];
-    let t = scheduler::turn(&mut s[0..n], &text[0..piece], &mut room[0..out]);
-    report::text(rt, b"turn with ")?;
-    report::answer(rt, label, t.answer)
+    let answer = scheduler::turn(&mut s[0..n], &text[0..piece], &mut room[0..out]).map(|_| ());
+    println!(rt; "turn with {label}: {}", scope::number(answer))
 }
 
 // A turn past 2^62.
-fn late(rt: &impl Print, label: &[u8], s: [u8; 8208], piece: usize) -> io::Result<()>
+fn late(rt: &impl Print, label: &str, s: [u8; 8208], piece: usize) -> io::Result<()>
     requires { piece ≤ 4097 }
 {
     let mut copy = at(s, scope::MOST_TURNS);
@@ -41,15 +40,15 @@ fn late(rt: &impl Print, label: &[u8], s: [u8; 8208], piece: usize) -> io::Resul
 pub fn turns(rt: &impl Print, s: &mut [u8; 8208], due: usize) -> io::Result<()>
     requires { (0 < due) × (due ≤ 4096) }
 {
-    with(rt, b"8207 bytes of a scheduler", s, 8207, due, due)?;
-    late(rt, b"2^62 turns done", *s, due)?;
-    with(rt, b"a byte more", s, 8208, due + 1, due + 1)?;
-    with(rt, b"a byte less", s, 8208, due - 1, due)?;
-    with(rt, b"a short output", s, 8208, due, due - 1)?;
-    late(rt, b"2^62 turns done and a byte more", *s, due + 1)?;
+    with(rt, "8207 bytes of a scheduler", s, 8207, due, due)?;
+    late(rt, "2^62 turns done", *s, due)?;
+    with(rt, "a byte more", s, 8208, due + 1, due + 1)?;
+    with(rt, "a byte less", s, 8208, due - 1, due)?;
+    with(rt, "a short output", s, 8208, due, due - 1)?;
+    late(rt, "2^62 turns done and a byte more", *s, due + 1)?;
     with(
         rt,
-        b"a byte more and a short output",
+        "a byte more and a short output",
         s,
         8208,
         due + 1,

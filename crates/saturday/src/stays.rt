@@ -1,30 +1,20 @@
 // The stays: the key, the IV and the text of each. Stay i has the key of bytes (7 * i + j) mod 256, the IV of i mod 33 and 15 zeros, and a text of 1, 4,096, 4,097 or 20,000
 // bytes as i mod 4 is 0, 1, 2 or 3. Byte k of the text is (first byte of the IV + k) mod 251.
 
-// The byte behind one in bytes that count up to a last one, and from 0 again.
-fn after(b: u8, last: u8) -> u8 {
-    if b == last {
-        return 0;
-    }
-    std::num::wrapping_add_u8(b, 1)
-}
-
-// Such bytes, as many as the longest piece has and one more.
+// Bytes that count up to a last one, and from 0 again: as many as the longest piece has and one more.
 fn count(first: u8, last: u8) -> [u8; 4097] {
     let mut r = [0u8; 4097];
     let mut b = first;
-    let mut i: usize = 0;
-    while i < 4097 {
-        r[i] = b;
-        b = after(b, last);
-        i += 1;
+    for x in r.iter_mut() {
+        *x = b;
+        b = if b == last { 0 } else { b.wrapping_add(1) };
     }
     r
 }
 
 // A key, and bytes behind it.
 pub fn key(i: u8) -> [u8; 4097] {
-    count((7 * i as u64 % 256) as u8, 255)
+    count(i.wrapping_mul(7), 255)
 }
 
 // An IV, and a zero behind it.

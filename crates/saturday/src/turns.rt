@@ -2,68 +2,58 @@
 // rest of the text begins.
 ghost use Rattle.std.specs.Prelude.{◌≤◌};
 
-use crate::{report, stays};
+use crate::report::Hex;
+use crate::stays;
 use scheduler::Turned;
 use std::io;
 
 pub fn next(rt: &impl Print, s: &[u8; 8208]) -> io::Result<()> {
-    let n = scheduler::next(s);
-    if n.found {
-        let iv = n.iv;
-        report::number(rt, b"next: IV ", words::word_of(iv[0]) as u64)?;
-        report::number(rt, b" due ", n.due)?;
-        report::text(rt, b"\n")
-    } else {
-        report::text(rt, b"next: nobody\n")
+    match scheduler::next(s) {
+        Ok(Some(stay)) => {
+            let iv = stay.iv;
+            let first = iv[0];
+            let due = stay.due;
+            println!(rt; "next: IV {first} due {due}")
+        }
+        _ => println!(rt; "next: nobody"),
     }
 }
 
 fn at_most(most: usize, n: u64) -> usize
     ensures { result ≤ most }
 {
-    if n > most as u64 {
-        return most;
-    }
-    n as usize
+    n.min(most as u64) as usize
 }
 
 // A numbered turn: whom it served, whether that stay has left, the front of what was written, and the tag of one that has left.
-fn numbered(rt: &impl Print, t: Turned, out: [u8; 4096], length: u64) -> io::Result<()> {
+fn numbered(rt: &impl Print, t: Turned, out: &[u8; 4096], length: u64) -> io::Result<()> {
+    let turn = t.turn;
     let iv = t.iv;
-    let tag = t.tag;
+    let first = iv[0];
+    let done = u8::from(t.tag.is_some());
     let n = at_most(8, length);
-    report::number(rt, b"turn ", t.turn)?;
-    report::number(rt, b": IV ", words::word_of(iv[0]) as u64)?;
-    report::number(rt, b" done ", t.done as u64)?;
-    report::text(rt, b" ")?;
-    report::hex(rt, &out[0..n])?;
-    if t.done {
-        report::text(rt, b" tag ")?;
-        report::hex(rt, &tag)?;
+    print!(rt; "turn {turn}: IV {first} done {done} {}", Hex(&out[0..n]))?;
+    if let Some(tag) = t.tag {
+        print!(rt; " tag {}", Hex(&tag))?;
     }
-    report::text(rt, b"\n")
-}
-
-fn unnumbered(rt: &impl Print, answer: u64) -> io::Result<()> {
-    if answer == 0 {
-        report::text(rt, b"turn: nobody\n")
-    } else {
-        report::answer(rt, b"turn", answer)
-    }
+    println!(rt)
 }
 
 pub fn turn(rt: &impl Print, s: &mut [u8; 8208], rests: &mut [u8; 256]) -> io::Result<()> {
-    let next = scheduler::next(s);
-    let iv = next.iv;
-    let i = words::word_of(iv[0]) as usize;
+    let (first, due) = match scheduler::next(s) {
+        Ok(Some(stay)) => (stay.iv[0], stay.due),
+        _ => (0, 0),
+    };
+    let i = first as usize;
     let text = stays::text(rests[i]);
-    let n = at_most(4096, next.due);
+    let n = at_most(4096, due);
     let mut out = [0u8; 4096];
-    let t = scheduler::turn(s, &text[0..n], &mut out);
-    if t.turn == 0 {
-        unnumbered(rt, t.answer)
-    } else {
-        rests[i] = text[n];
-        numbered(rt, t, out, next.due)
+    match scheduler::turn(s, &text[0..n], &mut out) {
+        Ok(Some(t)) => {
+            rests[i] = text[n];
+            numbered(rt, t, &out, due)
+        }
+        Ok(None) => println!(rt; "turn: nobody"),
+        Err(e) => println!(rt; "turn: {}", e.number()),
     }
 }

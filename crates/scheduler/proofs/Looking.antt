@@ -2,19 +2,22 @@
 use mathlib.Core.Path.{◌≡◌, refl, sym, ap, ◌∙◌}
 use mathlib.Core.List.{List, [], ◌∷◌}
 use mathlib.Core.Bool.{true, false, not, true≢false}
-use Rattle.std.specs.Prelude.{Some}
-use Prim.Native.Nat.{ℕ, suc, ◌≤◌, ◌<◌}
+use Rattle.std.specs.Prelude.{Some, Result, Err}
+use Prim.Native.Nat.{ℕ, ◌≤◌, ◌<◌}
 use native.Mathlib.Omega.{arith}
 use borrow.Author.Tests.{eq-eqb, ne_eqb, lt-ltb, le-ltb, le-leb, lt-leb, eqb-true, leb-false}
 use lib.Dec.{eqb, leb, lit<}
 use lib.ListN.{length, drop}
 use Rattle.scope.specs.Limits.{most_turns, most_text}
+use Rattle.scope.specs.declared.Refusal.{Refusal}
+use Rattle.scope.specs.Machine.{refusal_number, answer_number}
 use Rattle.scope.specs.Refusals.{pick, refuse}
+use Rattle.scope.proofs.Refused as Refused
 use Rattle.scope.proofs.Refusing.{refuse_none}
 use Rattle.words.specs.Bytes.{number, part}
-use Rattle.scheduler.specs.Scheduler.{Stay, Scheduler, none, present, scheduler_order, place, at, next, due}
+use Rattle.scheduler.specs.Scheduler.{Stay, none, present, scheduler_order, place, at, next, due}
 use Rattle.scheduler.specs.Calls.{join_number}
-use Rattle.scheduler.specs.Bytes.{stays_in, how_many, scheduler_in, Leaves, join_answer}
+use Rattle.scheduler.specs.Bytes.{stays_in, how_many, scheduler_in, join_answer, JoinLeaves}
 use Rattle.scheduler.specs.Inner.{stay_at, looked_number, Stands}
 use Rattle.scheduler.proofs.Places.{stays_long, stays_at}
 use Rattle.scheduler.proofs.Order.{is_there, on_test}
@@ -101,13 +104,16 @@ module _ (b : List ℕ) (n : ℕ) where
 
 -- ---- joining
 
--- a refusal leaves all
-pub unchanged : {k a : ℕ} → suc k ≡ a → (g : Scheduler) (b : List ℕ) → Leaves (eqb a 0) g b b
-unchanged {k} {a} e g b =
-    let f : eqb a 0 ≡ false = ne_eqb a 0 (λ z. let q : suc k ≡ 0 = e ∙ z in omega arith) in
-    record { bytes = rw f; lists = rw f }
-
 module _ (b key iv : List ℕ) (n : ℕ) where
+  abbrev pub Joins : Result Unit Refusal → (after : List ℕ) → Type 0
+  Joins r after = record { answer : answer_number r ≡ join_answer b key iv n; scheduler : JoinLeaves b key iv n after }
+
+  -- a refusal leaves all
+  pub joins_refused : (e : Refusal) → refusal_number e ≡ join_answer b key iv n → Joins (Err e) b
+  joins_refused e k =
+      let f : eqb (join_answer b key iv n) 0 ≡ false = ne_eqb (join_answer b key iv n) 0 (λ z. Refused.refused e (k ∙ z)) in
+      record { answer = k; scheduler = record { bytes = rw f; lists = rw f } }
+
   pub join_torn : ¬ (length b ≡ 8208) → 8 ≡ join_answer b key iv n
   unfolding join_answer
   join_torn h = rw (ne_eqb (length b) 8208 h)

@@ -11,6 +11,7 @@ use lib.Seq.{sets, take_all}
 use Rattle.words.specs.Bytes.{part}
 use Rattle.words.specs.Machine.{bytes_of}
 use Rattle.words.proofs.Typed.{known_bytes}
+use Rattle.scope.specs.declared.Refusal.TheVariants.{KeyLength, IvLength, TooLong, BadBlock, NumberTaken, SchedulerFull}
 use Rattle.scope.proofs.Refused as Refused
 use Rattle.start.specs.Start.{start_number}
 use Rattle.session.specs.Session.{Session}
@@ -20,47 +21,46 @@ use Rattle.bytes_c.specs.SessionBytes.{session_bytes}
 use Rattle.scheduler.specs.Scheduler.{Stay, present}
 use Rattle.scheduler.specs.Calls.{newcomer, join_call, join_number}
 use Rattle.scheduler.specs.Bytes.{stay_bytes, stays_in, how_many, scheduler_in, Leaves, join_answer}
-use Rattle.scheduler.proofs.Looking.{unchanged, join_torn, join_whole, join_key, join_iv, join_no_text, join_over, join_full, join_present, join_right}
+use Rattle.scheduler.proofs.Looking.{joins_refused, join_torn, join_whole, join_key, join_iv, join_no_text, join_over, join_full, join_present, join_right}
 use Rattle.scheduler.proofs.Serving.{joining}
-use borrow.Author.Rules.{rules}
 use Rattle.scheduler.proofs.join.Goals as goal
 
 pub returns-then-scheduler-ne-SCHEDULER_BYTES : goal.returns-then-scheduler-ne-SCHEDULER_BYTES
 returns-then-scheduler-ne-SCHEDULER_BYTES c =
     let a = c.args in
-    let e = join_torn a.scheduler.now a.key.now a.iv.now a.length c.if-scheduler-ne-SCHEDULER_BYTES.true in
-    record { answer = e; scheduler = unchanged e (join_call (scheduler_in a.scheduler.now) a.key.now a.iv.now a.length) a.scheduler.now }
+    joins_refused a.scheduler.now a.key.now a.iv.now a.length BadBlock
+    (join_torn a.scheduler.now a.key.now a.iv.now a.length c.if-scheduler-ne-SCHEDULER_BYTES.true)
 
 pub returns-then-key-ne32 : goal.returns-then-key-ne32
 returns-then-key-ne32 c =
     let a = c.args in
-    let e = join_key a.scheduler.now a.key.now a.iv.now a.length c.if-scheduler-ne-SCHEDULER_BYTES.false c.if-key-ne32.true in
-    record { answer = e; scheduler = unchanged e (join_call (scheduler_in a.scheduler.now) a.key.now a.iv.now a.length) a.scheduler.now }
+    joins_refused a.scheduler.now a.key.now a.iv.now a.length KeyLength
+    (join_key a.scheduler.now a.key.now a.iv.now a.length c.if-scheduler-ne-SCHEDULER_BYTES.false c.if-key-ne32.true)
 
 pub returns-then-iv-ne16 : goal.returns-then-iv-ne16
 returns-then-iv-ne16 c =
     let a = c.args in
-    let e = join_iv a.scheduler.now a.key.now a.iv.now a.length c.if-scheduler-ne-SCHEDULER_BYTES.false c.if-key-ne32.false c.if-iv-ne16.true in
-    record { answer = e; scheduler = unchanged e (join_call (scheduler_in a.scheduler.now) a.key.now a.iv.now a.length) a.scheduler.now }
+    joins_refused a.scheduler.now a.key.now a.iv.now a.length IvLength
+    (join_iv a.scheduler.now a.key.now a.iv.now a.length c.if-scheduler-ne-SCHEDULER_BYTES.false c.if-key-ne32.false c.if-iv-ne16.true)
 
 pub returns-then-length-eq0 : goal.returns-then-length-eq0
 returns-then-length-eq0 c =
     let a = c.args in
-    let e = join_no_text a.scheduler.now a.key.now a.iv.now a.length c.if-scheduler-ne-SCHEDULER_BYTES.false c.if-key-ne32.false c.if-iv-ne16.false c.if-length-eq0.true in
-    record { answer = e; scheduler = unchanged e (join_call (scheduler_in a.scheduler.now) a.key.now a.iv.now a.length) a.scheduler.now }
+    joins_refused a.scheduler.now a.key.now a.iv.now a.length TooLong
+    (join_no_text a.scheduler.now a.key.now a.iv.now a.length c.if-scheduler-ne-SCHEDULER_BYTES.false c.if-key-ne32.false c.if-iv-ne16.false c.if-length-eq0.true)
 
 pub returns-then-length-gt-MOST_TEXT : goal.returns-then-length-gt-MOST_TEXT
 returns-then-length-gt-MOST_TEXT c =
     let a = c.args in
-    let e = join_over a.scheduler.now a.key.now a.iv.now a.length c.if-scheduler-ne-SCHEDULER_BYTES.false c.if-key-ne32.false c.if-iv-ne16.false c.if-length-eq0.false c.if-length-gt-MOST_TEXT.true in
-    record { answer = e; scheduler = unchanged e (join_call (scheduler_in a.scheduler.now) a.key.now a.iv.now a.length) a.scheduler.now }
+    joins_refused a.scheduler.now a.key.now a.iv.now a.length TooLong
+    (join_over a.scheduler.now a.key.now a.iv.now a.length c.if-scheduler-ne-SCHEDULER_BYTES.false c.if-key-ne32.false c.if-iv-ne16.false c.if-length-eq0.false c.if-length-gt-MOST_TEXT.true)
 
 pub returns-then-n-ge-MOST_STAYS : goal.returns-then-n-ge-MOST_STAYS
 returns-then-n-ge-MOST_STAYS c =
     let a = c.args in
-    let e = join_full a.scheduler.now a.key.now a.iv.now a.length c.if-scheduler-ne-SCHEDULER_BYTES.false c.if-key-ne32.false c.if-iv-ne16.false c.if-length-eq0.false c.if-length-gt-MOST_TEXT.false
-    (omega (arith, c.stays-n.ensures.0, c.if-n-ge-MOST_STAYS.true)) in
-    record { answer = e; scheduler = unchanged e (join_call (scheduler_in a.scheduler.now) a.key.now a.iv.now a.length) a.scheduler.now }
+    joins_refused a.scheduler.now a.key.now a.iv.now a.length SchedulerFull
+    (join_full a.scheduler.now a.key.now a.iv.now a.length c.if-scheduler-ne-SCHEDULER_BYTES.false c.if-key-ne32.false c.if-iv-ne16.false c.if-length-eq0.false c.if-length-gt-MOST_TEXT.false
+    (omega (arith, c.stays-n.ensures.0, c.if-n-ge-MOST_STAYS.true)))
 
 -- what was looked for among the places is the number among the stays
 looked : (b iv v : List ℕ) (n : ℕ) (r : Bool) → length iv ≡ 16 → n ≡ how_many b → v ≡ part 0 16 iv → r ≡ present v (stays_in n (drop 16 b))
@@ -73,9 +73,9 @@ returns-then-present c =
     let a = c.args in
     let s = a.scheduler.now in
     let f = looked s a.iv.now (bytes_of c.load.result) c.stays-n.result c.present.result c.if-iv-ne16.false c.stays-n.ensures.0 c.load.ensures c.present.ensures in
-    let e = join_present s a.key.now a.iv.now a.length c.if-scheduler-ne-SCHEDULER_BYTES.false c.if-key-ne32.false c.if-iv-ne16.false c.if-length-eq0.false c.if-length-gt-MOST_TEXT.false
-    (omega (arith, c.stays-n.ensures.0, c.if-n-ge-MOST_STAYS.false)) (sym f ∙ c.if-present.true) in
-    record { answer = e; scheduler = unchanged e (join_call (scheduler_in s) a.key.now a.iv.now a.length) s }
+    joins_refused s a.key.now a.iv.now a.length NumberTaken
+    (join_present s a.key.now a.iv.now a.length c.if-scheduler-ne-SCHEDULER_BYTES.false c.if-key-ne32.false c.if-iv-ne16.false c.if-length-eq0.false c.if-length-gt-MOST_TEXT.false
+    (omega (arith, c.stays-n.ensures.0, c.if-n-ge-MOST_STAYS.false)) (sym f ∙ c.if-present.true))
 
 -- neither length is refused any more
 begins : (key iv : List ℕ) → length key ≡ 32 → length iv ≡ 16 → (begin_call key iv).number ≡ 0
@@ -87,11 +87,6 @@ returns-in_err-fresh c =
     let a = c.args in
     let e = c.in_err-fresh.field-0.0 in
     absurd (Refused.refused e (c.in_err-fresh.ensures ∙ begins a.key.now a.iv.now c.if-key-ne32.false c.if-iv-ne16.false))
-
-pub put_head-requires : goal.put_head-requires
-put_head-requires c =
-    let l : length c.put_stay.new.s ≡ length c.args.scheduler.now = search rules in
-    l ∙ c.if-scheduler-ne-SCHEDULER_BYTES.false
 
 -- an accepted joining
 accepts : (b key iv : List ℕ) (n : ℕ) → length b ≡ 8208 → 0 ≡ join_answer b key iv n → (x : Stay) → x ≡ newcomer (scheduler_in b) key iv n → {b2 : List ℕ}

@@ -43,10 +43,3 @@ loop-i-preserved c =
       | then-comes_before w ↦ (omega (arith, w.best-is), w.best-is ∙ subst (λ (b : Bool). pick b l.i l.best ≡ place scheduler_order (stays_in (l.i + 1) (drop 16 s))) w.if-comes_before.true t)
       | else-comes_before w ↦ (omega (arith, w.best-is), w.best-is ∙ subst (λ (b : Bool). pick b l.i l.best ≡ place scheduler_order (stays_in (l.i + 1) (drop 16 s))) w.if-comes_before.false t)
     ]
-
-pub returns : goal.returns
-returns c =
-    let l = c.loop-i in
-    let a = c.args in
-    let e : l.i ≡ a.n = omega arith in
-    l.invariant.1 ∙ ap (λ (k : ℕ). place scheduler_order (stays_in k (drop 16 a.s.now))) e

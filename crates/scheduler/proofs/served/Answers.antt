@@ -2,11 +2,10 @@
 use Rattle.std.specs.Prelude.{Some, Result, Ok, Err, IsOk}
 use mathlib.Core.Path.{◌≡◌, refl, sym, ap, ◌∙◌}
 use mathlib.Core.Bool.{true, false}
-use Prim.Native.Nat.{ℕ, ◌-◌, ◌<◌}
+use Prim.Native.Nat.{◌-◌, ◌<◌}
 use native.Mathlib.Omega.{arith}
 use borrow.Author.Tests.{eq-eqb, ne_eqb, lt-ltb}
 use lib.Dec.{eqb}
-use lib.ListN.{length}
 use Rattle.words.proofs.Rows.{Below}
 use Rattle.words.proofs.Typed.{known_bytes}
 use Rattle.scope.specs.declared.Refusal.{Refusal}
@@ -18,18 +17,13 @@ use Rattle.session.specs.Calls.{Finished, finish_number, finish_call}
 use Rattle.session.specs.Machine.{session_of, finished_of}
 use Rattle.scheduler.specs.Calls.{rest}
 use Rattle.scheduler.specs.Bytes.{scheduler_in}
-use Rattle.scheduler.specs.Inner.{stay_at, removed}
-use Rattle.scheduler.proofs.Leaving.{removed_long}
+use Rattle.scheduler.specs.Inner.{stay_at}
 use Rattle.scheduler.proofs.Serving.{staying, leaving}
 use Rattle.scheduler.proofs.served.Goals as goal
 use Rattle.scheduler.proofs.served.Goals.{After-slice_known-1}
 
 bytes : (c : After-slice_known-1) → Below 256 c.args.s.now
 bytes c = known_bytes c.args.s.now c.slice_known-1.given
-
-pub overflow_sub-n : goal.overflow_sub-n
-overflow_sub-n c =
-    omega (arith, c.stays-n.ensures.0, c.requires.1)
 
 -- a session that is not finished does not refuse to be
 finishes : (r : Result Closing Refusal) (v : machine.Session) (u : Session) → u.phase < 2 → finished_of r v ≡ finish_call u → IsOk r
@@ -39,12 +33,6 @@ finishes (Err x) v u h e = absurd (Refused.refused x (ap (λ (z : Finished). z.n
 
 pub unwrap-requires : goal.unwrap-requires
 unwrap-requires c = finishes c.finish.result c.finish.new.s (session_of c.args.u) c.requires.3 c.finish.ensures
-
-pub put_head-requires-2 : goal.put_head-requires-2
-put_head-requires-2 c =
-    let s = c.args.s.now in
-    let i = c.args.i in
-    ap length c.remove.ensures ∙ ap (λ (m : ℕ). length (removed i m s)) c.stays-n.ensures.0 ∙ removed_long s (bytes (goal.at.put_head-requires-2 c).After-slice_known-1) c.requires.0 i c.requires.1
 
 pub returns-then-rest-ne0 : goal.returns-then-rest-ne0
 unfolding scheduler_in
