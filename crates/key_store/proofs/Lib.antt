@@ -1,3 +1,4 @@
+pub mod Marks
 pub mod Obeying
 pub mod Written
 pub mod Taken

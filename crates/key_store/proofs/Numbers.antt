@@ -2,7 +2,6 @@
 -- ask of blocks.
 use Rattle.std.proofs.Common.{◌≡◌, ℕ, ◌+◌, ◌*◌, ◌/◌, ◌≤◌, ◌<◌, Bool, true, false, eqb, List, [], ◌++◌, map, length, get_or, take, drop, Option, Some, None, is_some, Result, Ok, Err, refl, sym, ap, ap₂, ◌∙◌, append_assoc, arith, eq-eqb, ne_eqb, drop-drop}
 use Rattle.std.specs.Bool.{then_some}
-use Rattle.std.specs.Option.{ok_or}
 use borrow.Rule.Slice.PartMut.{put_mid}
 use Rattle.scope.specs.declared.Refusal.{Refusal}
 use Rattle.scope.specs.declared.Refusal.TheVariants.{KeyLength, IvLength, BadBlock, NoKey}
@@ -28,11 +27,6 @@ use Rattle.key_store.proofs.Surveying.{first_inside, found_holds}
 blocks_long : (s : List ℕ) → length (blocks s) ≡ length s / 512
 unfolding blocks
 blocks_long s = cut_long (length s / 512) s
-
--- where no place is found the error is the one given for it
-pub none_given : (o : Option ℕ) {d e : Refusal} → Err e ≡ ok_or o d → (o ≡ None) × (e ≡ d)
-none_given None h = (refl, cc)
-none_given (Some n) h = cc
 
 module _ (p : List ℕ → Bool) (s : List ℕ) (o : Option ℕ) (e : o ≡ place p (blocks s)) where
   any_is : is_some o ≡ any p (blocks s)

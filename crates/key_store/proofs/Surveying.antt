@@ -1,8 +1,8 @@
 -- What is known of the blocks seen so far, with one block more: what was seen of those before it, and what it says itself, make what is known of all. And what
 -- the place of a first block says of whether there is one.
-use Rattle.std.proofs.Common.{◌≡◌, ℕ, zero, suc, ◌+◌, ◌*◌, ◌<◌, Bool, true, false, not, ◌&&◌, ◌||◌, eqb, List, [], ◌∷◌, ◌++◌, map, length, get_or, Option, None, refl, sym, ap, ap₂, subst, ◌∙◌, true≢false, arith, lit<, lit≤}
+use Rattle.std.proofs.Common.{◌≡◌, ℕ, zero, suc, ◌+◌, ◌*◌, ◌<◌, Bool, true, false, not, ◌&&◌, ◌||◌, eqb, List, [], ◌∷◌, ◌++◌, map, length, get_or, Option, Some, None, refl, sym, ap, ap₂, subst, ◌∙◌, true≢false, arith, lit<, lit≤}
 use Rattle.std.specs.Bool.{then_some}
-use Rattle.std.specs.Option.{option_or}
+use Rattle.std.specs.Option.{option_eq, option_or}
 use mathlib.Core.Bool.{and-true, and-false}
 use Rattle.scope.specs.Refusals.{pick}
 use Rattle.words.specs.Bytes.{same, part}
@@ -14,8 +14,12 @@ use Rattle.fields.proofs.Every.{every_append}
 use Rattle.fields.proofs.Blocks.{cut_more}
 use Rattle.key_store.specs.Layout.{mark_of, iv_of, well_laid}
 use Rattle.key_store.specs.Store.{is_empty, present, holds, any, first, found, once}
-use Rattle.key_store.specs.Inner.{repeats, place, Surveyed}
+use Rattle.key_store.specs.Machine.{mark_number}
+use Rattle.key_store.specs.declared.Mark.{Mark}
+use Rattle.key_store.specs.contracts.MarkPartialEq.TheImpl as Equal
+use Rattle.key_store.specs.Inner.{Reads, repeats, place, Surveyed}
 use Rattle.key_store.specs.declared.Seen.{Seen}
+use Rattle.key_store.proofs.Marks.{read_as}
 
 -- ---- whether there is one
 
@@ -55,6 +59,10 @@ module _ (s : List ℕ) (i : ℕ) where
   pub mark_read : get_or s (512 * i) 0 ≡ mark_of (part (512 * i) 512 s)
   mark_read = ap (λ (k : ℕ). get_or s k 0) (let z : 512 * i ≡ 512 * i + 0 = omega arith in z) ∙ part_at s (512 * i) 512 0 (lit< tt)
 
+  pub mark_is : (o : Option Mark) (k : Mark) → Reads (get_or s (512 * i) 0) o
+      → option_eq (Equal.eq-value).it o (Some k) ≡ eqb (mark_of (part (512 * i) 512 s)) (mark_number k)
+  mark_is o k h = read_as (get_or s (512 * i) 0) o k h ∙ ap (λ (n : ℕ). eqb n (mark_number k)) mark_read
+
   pub iv_read : part (512 * i + 16) 16 s ≡ iv_of (part (512 * i) 512 s)
   iv_read = sym (part_part s (512 * i) 512 16 16 (lit≤ tt))
 
@@ -64,13 +72,13 @@ pub present_none : (iv s : List ℕ) → false ≡ any (present iv) (cut 0 s)
 unfolding cut any
 present_none iv s = refl
 
-pub present_more : (iv s : List ℕ) (i : ℕ) (c m : Bool) → c ≡ any (present iv) (cut i s) → m ≡ same (part (512 * i + 16) 16 s) iv
-    → (c || (not (eqb (get_or s (512 * i) 0) 0) && m)) ≡ any (present iv) (cut (i + 1) s)
+pub present_more : (iv s : List ℕ) (i : ℕ) {c f m : Bool} → c ≡ any (present iv) (cut i s) → f ≡ not (is_empty (part (512 * i) 512 s))
+    → m ≡ same (part (512 * i + 16) 16 s) iv → (c || (f && m)) ≡ any (present iv) (cut (i + 1) s)
 unfolding any
-present_more iv s i c m e f =
+present_more iv s i ec ef em =
     let b = part (512 * i) 512 s in
-    ap₂ (λ (x y : Bool). x || y) e
-    (ap₂ (λ (n : ℕ) (t : Bool). not (eqb n 0) && t) (mark_read s i) (f ∙ ap (λ (v : List ℕ). same v iv) (iv_read s i)) ∙ or_false (present iv b))
+    ap₂ (λ (x y : Bool). x || y) ec
+    (ap₂ (λ (f m : Bool). f && m) ef (em ∙ ap (λ (v : List ℕ). same v iv) (iv_read s i)) ∙ or_false (present iv b))
     ∙ sym (any_append (present iv) (cut i s) (b ∷ []))
     ∙ ap (any (present iv)) (sym (cut_more i s))
   where
@@ -150,12 +158,12 @@ module _ (iv : List ℕ) (w : Bool) (bs : List (List ℕ)) (b : List ℕ) (s r :
   unfolding every
   every_more = every_append well_laid bs (b ∷ [])
 
-  pub seen_more : (i mark : ℕ) (asked laid twice : Bool) → i ≡ length bs → mark ≡ mark_of b → asked ≡ same (iv_of b) iv → laid ≡ well_laid b
+  pub seen_more : (i : ℕ) (empty filled held asked laid twice : Bool) → i ≡ length bs → empty ≡ is_empty b → filled ≡ not (is_empty b) → held ≡ eqb (mark_of b) 1 → asked ≡ same (iv_of b) iv → laid ≡ well_laid b
       → twice ≡ repeats b bs → r.sound ≡ (s.sound && laid && not twice)
-      → r.empty ≡ option_or s.empty (then_some (eqb mark 0) i)
-      → r.present ≡ option_or s.present (then_some (not (eqb mark 0) && asked) i)
-      → r.holding ≡ option_or s.holding (then_some (eqb mark 1 && asked) i) → Surveyed iv w (bs ++ b ∷ []) r
-  seen_more i mark asked laid twice ei em ea el et es ev ep eh =
+      → r.empty ≡ option_or s.empty (then_some empty i)
+      → r.present ≡ option_or s.present (then_some (filled && asked) i)
+      → r.holding ≡ option_or s.holding (then_some (held && asked) i) → Surveyed iv w (bs ++ b ∷ []) r
+  seen_more i empty filled held asked laid twice ei em ef ek ea el et es ev ep eh =
       record {
         sound =
             es
@@ -163,10 +171,9 @@ module _ (iv : List ℕ) (w : Bool) (bs : List (List ℕ)) (b : List ℕ) (s r :
             ∙ ap (λ (x : Bool). (x && well_laid b) && not (repeats b bs)) g.sound
             ∙ sound_as w (every (map well_laid bs)) (once bs) (well_laid b) (repeats b bs)
             ∙ ap₂ (λ (x y : Bool). w && (x && y)) (sym every_more) (sym (once_more bs b));
-        empty = place_as is_empty (eqb mark 0) i ei g.empty (ap (λ (m : ℕ). eqb m 0) em) ev;
-        present =
-            place_as (present iv) (not (eqb mark 0) && asked) i ei g.present (ap₂ (λ (m : ℕ) (a : Bool). not (eqb m 0) && a) em ea) ep;
-        holding = place_as (holds iv) (eqb mark 1 && asked) i ei g.holding (ap₂ (λ (m : ℕ) (a : Bool). eqb m 1 && a) em ea) eh;
+        empty = place_as is_empty empty i ei g.empty em ev;
+        present = place_as (present iv) (filled && asked) i ei g.present (ap₂ (λ (f a : Bool). f && a) ef ea) ep;
+        holding = place_as (holds iv) (held && asked) i ei g.holding (ap₂ (λ (k a : Bool). k && a) ek ea) eh;
       }
 
 pub seen_in : (iv : List ℕ) (w : Bool) (s : Seen) {bs bs' : List (List ℕ)} → bs' ≡ bs → Surveyed iv w bs s → Surveyed iv w bs' s

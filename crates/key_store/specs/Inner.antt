@@ -1,5 +1,5 @@
 -- What the private functions compute: their contracts name it.
-use Rattle.std.specs.Prelude.{ℕ, ◌≡◌, Bool, not, ◌&&◌, List, [], map, Option, Result}
+use Rattle.std.specs.Prelude.{ℕ, ◌≡◌, Bool, not, ◌&&◌, List, [], map, ◌<◌, Option, MatchOption, Result}
 use Rattle.std.specs.Bool.{then_some}
 use Rattle.scope.specs.Refusals.{refuse, bad_tag}
 use Rattle.scope.specs.declared.Refusal.{Refusal}
@@ -9,7 +9,13 @@ use Rattle.fields.specs.Fields.{every}
 use Rattle.page.specs.Page.{cipher_of, tag_for}
 use Rattle.key_store.specs.Layout.{iv_of, sealed_in, tag_in, well_laid}
 use Rattle.key_store.specs.Store.{is_empty, present, holds, any, first, once}
+use Rattle.key_store.specs.Machine.{mark_number}
+use Rattle.key_store.specs.declared.Mark.{Mark}
 use Rattle.key_store.specs.declared.Seen.{Seen}
+
+-- what is read of a byte that ought to be a mark
+abbrev pub Reads : (byte : ℕ) → Option Mark → Type 0
+Reads b m = MatchOption m (2 < b) (λ k. mark_number k ≡ b)
 
 -- a block has, with mark 1 or 2, a number that one of those before it has
 abbrev pub repeats : (block : List ℕ) → (before : List (List ℕ)) → Bool

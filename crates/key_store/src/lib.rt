@@ -10,18 +10,39 @@ ghost use Rattle.key_store.specs.Layout;
 ghost use Rattle.key_store.specs.Layout.{iv_of, well_laid, held_block, erased_block};
 ghost use Rattle.key_store.specs.Store.{present, any};
 ghost use Rattle.key_store.specs.Calls.{store_number, store_after, fetch_number, fetch_key, erase_number, erase_after};
-ghost use Rattle.key_store.specs.Machine.{key_of};
-ghost use Rattle.key_store.specs.Inner.{repeats, Surveyed, Opens};
+ghost use Rattle.key_store.specs.Machine.{mark_number, key_of};
+ghost use Rattle.key_store.specs.Inner.{Reads, repeats, Surveyed, Opens};
 
 use scope::Refusal;
 use words::Block;
 
 // What the mark of a block says.
-const EMPTY: u8 = 0;
+#[derive(Clone, Copy, PartialEq, Eq)]
+enum Mark {
+    Empty = 0,
+    Held = 1,
+    Erased = 2,
+}
 
-const HELD: u8 = 1;
+impl Mark {
+    fn number(self) -> u8
+        ensures { result ≡ mark_number self }
+    {
+        self as u8
+    }
 
-const ERASED: u8 = 2;
+    // The mark that a byte is, if it is one.
+    fn read(b: u8) -> Option<Mark>
+        ensures { Reads b result }
+    {
+        match b {
+            0 => Some(Mark::Empty),
+            1 => Some(Mark::Held),
+            2 => Some(Mark::Erased),
+            _ => None,
+        }
+    }
+}
 
 // Whether a block obeys every layout rule. All are tested once there are 512 bytes to test them on.
 fn well_laid(block: &[u8]) -> bool
@@ -30,21 +51,23 @@ fn well_laid(block: &[u8]) -> bool
     if block.len() != 512 {
         return false;
     }
-    let mark = block[0];
+    let mark = Mark::read(block[0]);
     let all = fields::all_zero(block, 0, 512);
     let key_and_tag = fields::all_zero(block, 32, 48);
     let zero1 = fields::all_zero(block, 1, 15);
     let zero80 = fields::all_zero(block, 80, 428);
     let sum = fields::check_holds(block);
-    (mark <= 2) & ((mark != EMPTY) | all) & ((mark != ERASED) | key_and_tag) & zero1 & zero80 & sum
+    let empty_zero = (mark != Some(Mark::Empty)) | all;
+    let erased_zero = (mark != Some(Mark::Erased)) | key_and_tag;
+    mark.is_some() & empty_zero & erased_zero & zero1 & zero80 & sum
 }
 
 // A block: zeros, then the fields, then the check.
-fn block_of(mark: u8, iv: Block, sealed: [u8; 32], tag: Block) -> [u8; 512]
-    ensures { result ≡ Layout.block_of (record { mark = mark; iv = bytes_of iv; sealed = sealed; tag = bytes_of tag }) }
+fn block_of(mark: Mark, iv: Block, sealed: [u8; 32], tag: Block) -> [u8; 512]
+    ensures { result ≡ Layout.block_of (record { mark = mark_number mark; iv = bytes_of iv; sealed = sealed; tag = bytes_of tag }) }
 {
     let mut block = [0u8; 512];
-    block[0] = mark;
+    block[0] = mark.number();
     words::store(&mut block, 16, iv);
     words::store(&mut block, 32, words::load(&sealed, 0));
     words::store(&mut block, 48, words::load(&sealed, 16));
@@ -61,7 +84,7 @@ fn held_block(key: &[u8], iv: &[u8], stay_key: &[u8]) -> [u8; 512]
     let mut sealed = [0u8; 32];
     // Every length is in order, so that nothing is refused.
     let tag = page::seal(key, iv, &iv[..0], stay_key, &mut sealed).unwrap();
-    block_of(HELD, words::load(iv, 0), sealed, words::load(&tag, 0))
+    block_of(Mark::Held, words::load(iv, 0), sealed, words::load(&tag, 0))
 }
 
 // Erases what a block holds: mark 2, zeros for the sealed key and its tag, and the check made anew. The number stays.
@@ -70,7 +93,7 @@ fn erase_block(block: &mut [u8])
     ensures { block.new ≡ erased_block (iv_of block.old) }
 {
     let none = words::zero();
-    block[0] = ERASED;
+    block[0] = Mark::Erased as u8;
     words::store(block, 32, none);
     words::store(block, 48, none);
     words::store(block, 64, none);
@@ -94,7 +117,7 @@ fn present(store: &[u8], n: usize, iv: Block) -> bool
     for i in 0..n {
         let at = 512 * i;
         let same = words::same(words::load(store, at + 16), iv);
-        found = found | ((store[at] != EMPTY) & same);
+        found = found | ((Mark::read(store[at]) != Some(Mark::Empty)) & same);
     }
     found
 }
@@ -104,7 +127,7 @@ fn again(store: &[u8], i: usize) -> bool
     requires { 512 * i + 512 ≤ length store.now }
     ensures { result ≡ repeats (part (512 * i) 512 store.now) (cut i store.now) }
 {
-    if store[512 * i] == EMPTY {
+    if Mark::read(store[512 * i]) == Some(Mark::Empty) {
         return false;
     }
     present(store, i, words::load(store, 512 * i + 16))
@@ -126,13 +149,13 @@ fn look(s: Seen, store: &[u8], i: usize, iv: Block) -> Seen
     ensures { (w : Bool) → Surveyed (bytes_of iv) w (cut i store.now) s → Surveyed (bytes_of iv) w (cut (i + 1) store.now) result }
 {
     let at = 512 * i;
-    let mark = store[at];
+    let mark = Mark::read(store[at]);
     let asked = words::same(words::load(store, at + 16), iv);
     let laid = well_laid(&store[at..at + 512]);
     let twice = again(store, i);
-    let empty = (mark == EMPTY).then_some(i);
-    let present = ((mark != EMPTY) & asked).then_some(i);
-    let holding = ((mark == HELD) & asked).then_some(i);
+    let empty = (mark == Some(Mark::Empty)).then_some(i);
+    let present = ((mark != Some(Mark::Empty)) & asked).then_some(i);
+    let holding = ((mark == Some(Mark::Held)) & asked).then_some(i);
     Seen {
         sound: s.sound & laid & !twice,
         empty: s.empty.or(empty),

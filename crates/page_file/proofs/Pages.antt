@@ -1,20 +1,19 @@
 -- What is said of a list of pages is said of its parts.
-use mathlib.Core.Path.{◌≡◌, refl, sym, ap, ◌∙◌}
-use mathlib.Core.Bool.{Bool, true, false, not, ◌&&◌, and_assoc, and-false}
-use mathlib.Core.List.{List, [], ◌∷◌, ◌++◌}
-use Prim.Native.Nat.{ℕ, zero, suc, ◌+◌, ◌<◌}
-use native.Mathlib.Omega.{arith}
-use native.Mathlib.Nat.{add-zero}
-use borrow.Author.Tests.{eqb-true, eqb-false, eq-eqb, ne_eqb, lt-ltb, le-ltb, not-true}
-use lib.Dec.{eqb, ltb, leb-suc-suc}
-use lib.ListN.{length, get_or}
+use Rattle.std.proofs.Common.{◌≡◌, ℕ, zero, suc, ◌+◌, ◌-◌, ◌*◌, ◌<◌, Bool, true, false, not, ◌&&◌, eqb, ltb, List, [], ◌∷◌, ◌++◌, length, get_or, take, drop, refl, sym, ap, ◌∙◌, add-zero, arith, eq-eqb, ne_eqb, eqb-true}
+use mathlib.Core.Bool.{and_assoc, and-false}
+use borrow.Author.Tests.{eqb-false, lt-ltb, le-ltb, not-true}
+use lib.Dec.{leb-suc-suc}
 use Rattle.scope.specs.Refusals.{pick}
-use Rattle.words.specs.Bytes.{same}
+use Rattle.words.specs.Bytes.{same, part}
 use Rattle.words.proofs.Tests.{and_left, and_right}
 use Rattle.fields.specs.Fields.{every}
 use Rattle.fields.proofs.Every.{every_append}
 use Rattle.page_file.specs.Layout.{stay_of, page_number, departure}
 use Rattle.page_file.specs.File.{of_stay, lacks, running, all_on, one_day, stay_in_order, named}
+
+-- the page that is lent from its place on
+pub lent_part : (f : List ℕ) (i : ℕ) → take (512 * i + 512 - 512 * i) (drop (512 * i) f) ≡ part (512 * i) 512 f
+lent_part f i = ap (λ (k : ℕ). take k (drop (512 * i) f)) (let e : 512 * i + 512 - 512 * i ≡ 512 = omega arith in e)
 
 -- ---- pages behind pages
 

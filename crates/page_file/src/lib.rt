@@ -222,8 +222,6 @@ pub fn open(key: &[u8], stay: &[u8], n: u32, file: &[u8], out: &mut [u8]) -> Res
     ensures out { out.new ≡ open_out key.now stay.now n file.now out.old }
 {
     let c = read(key, stay, n, file, out.len())?;
-    let k = c.length;
-    let text = c.text;
-    fields::copy(&text, k, out);
-    Ok(k)
+    fields::copy(&c.text, c.length, out);
+    Ok(c.length)
 }

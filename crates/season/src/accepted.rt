@@ -8,7 +8,7 @@ use std::io;
 // The answer of a seal into a place, and a look at the page.
 fn seal_and_look(
     rt: &impl Print,
-    label: &[u8],
+    label: &str,
     p: Page,
     file: [u8; 3584],
     place: u64,
@@ -16,30 +16,30 @@ fn seal_and_look(
     requires { p.length ≤ 475 }
 {
     let mut f = file;
-    report::label(rt, label)?;
+    print!(rt; "{label}: ")?;
     report::answer(
         rt,
         season::seal(p, season::departure(p.stay), &mut f, place),
     )?;
-    report::text(rt, b" and ")?;
+    print!(rt; " and ")?;
     roll::look(rt, p, &f)?;
-    report::text(rt, b"\n")
+    println!(rt)
 }
 
 // A page number whose highest byte is not zero.
 fn far_page(rt: &impl Print, file: [u8; 3584]) -> io::Result<()> {
     let mut f = file;
     let p = season::page_of(2, 16909060, 16);
-    report::label(rt, b"page 16909060 of stay 2")?;
+    print!(rt; "page 16909060 of stay 2: ")?;
     report::answer(rt, season::seal(p, season::departure(2), &mut f, 6))?;
-    report::text(rt, b" and bytes 12 to 15 are ")?;
+    print!(rt; " and bytes 12 to 15 are ")?;
     report::hex(rt, &f[3084..3088])?;
-    report::text(rt, b"\n")
+    println!(rt)
 }
 
 pub fn seals(rt: &impl Print, file: [u8; 3584]) -> io::Result<()> {
     let long = damage::length_475(file);
-    seal_and_look(rt, b"sealed beside a length of 475", season::at(2), long, 2)?;
+    seal_and_look(rt, "sealed beside a length of 475", season::at(2), long, 2)?;
     far_page(rt, file)?;
-    seal_and_look(rt, b"a fourth page", season::page_of(1, 3, 16), file, 6)
+    seal_and_look(rt, "a fourth page", season::page_of(1, 3, 16), file, 6)
 }

@@ -1,7 +1,7 @@
 // Copies of the season's file, each damaged in one way, and a roll call of each.
 ghost use Rattle.std.specs.Prelude.{◌<◌};
 
-use crate::{report, roll, season};
+use crate::{roll, season};
 use std::io;
 
 // A file with the page at a place that another file has at one.
@@ -9,11 +9,7 @@ fn with_page(file: [u8; 3584], place: usize, other: [u8; 3584], from: usize) -> 
     requires { (place < 7) × (from < 7) }
 {
     let mut f = file;
-    let mut i: usize = 0;
-    while i < 512 {
-        f[512 * place + i] = other[512 * from + i];
-        i += 1;
-    }
+    f[512 * place..512 * place + 512].copy_from_slice(&other[512 * from..512 * from + 512]);
     f
 }
 
@@ -24,26 +20,26 @@ fn swapped(file: [u8; 3584], a: usize, b: usize) -> [u8; 3584]
 }
 
 fn dropped(rt: &impl Print, file: [u8; 3584]) -> io::Result<()> {
-    let a = with_page(file, 2, file, 3);
-    let b = with_page(a, 3, file, 4);
-    let c = with_page(b, 4, file, 5);
-    let d = with_page(c, 5, file, 6);
-    roll::roll_call(rt, b"dropped", &d[0..3072])
+    let mut f = file;
+    for place in 2..6 {
+        f = with_page(f, place, file, place + 1);
+    }
+    roll::roll_call(rt, "dropped", &f[0..3072])
 }
 
 fn moved(rt: &impl Print, file: [u8; 3584]) -> io::Result<()> {
     let own = swapped(file, 0, 2);
-    roll::roll_call(rt, b"swapped", &own)?;
+    roll::roll_call(rt, "swapped", &own)?;
     let foreign = swapped(file, 0, 1);
-    roll::roll_call(rt, b"swapped with another stay's", &foreign)?;
+    roll::roll_call(rt, "swapped with another stay's", &foreign)?;
     let doubled = with_page(file, 6, file, 0);
-    roll::roll_call(rt, b"doubled", &doubled)
+    roll::roll_call(rt, "doubled", &doubled)
 }
 
 // Page 1 of stay 1 on another day than the stay's other pages.
 pub fn days_differ(file: [u8; 3584]) -> [u8; 3584] {
     let mut f = file;
-    season::seal(season::at(2), 9001, &mut f, 2);
+    let _sealed = season::seal(season::at(2), 9001, &mut f, 2);
     f
 }
 
@@ -56,12 +52,12 @@ pub fn length_475(file: [u8; 3584]) -> [u8; 3584] {
 
 fn headers(rt: &impl Print, file: [u8; 3584]) -> io::Result<()> {
     let days = days_differ(file);
-    roll::roll_call(rt, b"days differ", &days)?;
+    roll::roll_call(rt, "days differ", &days)?;
     let long = length_475(file);
-    roll::roll_call(rt, b"length 475", &long)?;
+    roll::roll_call(rt, "length 475", &long)?;
     let mut late = file;
     fields::put(&mut late, 3088, 4, 73049);
-    roll::roll_call(rt, b"day 73049", &late)
+    roll::roll_call(rt, "day 73049", &late)
 }
 
 // A file with this tag in page 1 of stay 1.
@@ -76,14 +72,14 @@ fn resealed(file: [u8; 3584], text: [u8; 475]) -> [u8; 3584] {
     let key = season::key();
     let mut f = file;
     let header = &file[1024..1046];
-    let s = page::seal(
+    let tag = page::seal(
         &key,
         &header[0..16],
         header,
         &text[0..474],
         &mut f[1046..1520],
-    );
-    let tag = s.tag;
+    )
+    .unwrap_or([0; 16]);
     with_tag(f, tag)
 }
 
@@ -105,14 +101,14 @@ pub fn flipped(file: [u8; 3584], b: usize) -> [u8; 3584]
 
 fn padding(rt: &impl Print, file: [u8; 3584]) -> io::Result<()> {
     let p = padded(file);
-    roll::roll_call(rt, b"padding", &p)?;
+    roll::roll_call(rt, "padding", &p)?;
     let q = flipped(p, 511);
-    roll::roll_call(rt, b"padding, tag broken", &q)
+    roll::roll_call(rt, "padding, tag broken", &q)
 }
 
 fn shortened(rt: &impl Print, file: [u8; 3584]) -> io::Result<()> {
-    roll::roll_call(rt, b"511 bytes", &file[0..511])?;
-    roll::roll_call(rt, b"0 bytes", b"")
+    roll::roll_call(rt, "511 bytes", &file[0..511])?;
+    roll::roll_call(rt, "0 bytes", &[])
 }
 
 pub fn roll_calls(rt: &impl Print, file: [u8; 3584]) -> io::Result<()> {
@@ -129,19 +125,17 @@ fn look_flipped(rt: &impl Print, file: [u8; 3584], b: usize) -> io::Result<()>
     let f = flipped(file, b);
     roll::look(rt, season::at(2), &f)?;
     if b % 32 == 31 {
-        report::text(rt, b"\n")
+        println!(rt)
     } else {
-        report::text(rt, b" ")
+        print!(rt; " ")
     }
 }
 
 // Each byte of page 1 of stay 1 in turn, 32 to a line.
 pub fn every_byte(rt: &impl Print, file: [u8; 3584]) -> io::Result<()> {
-    report::text(rt, b"each byte of page 1.1 flipped:\n")?;
-    let mut b: usize = 0;
-    while b < 512 {
+    println!(rt; "each byte of page 1.1 flipped:")?;
+    for b in 0..512 {
         look_flipped(rt, file, b)?;
-        b += 1;
     }
     Ok(())
 }

@@ -17,7 +17,7 @@ fn main(rt: HostRuntime) -> io::Result<()> {
     let file = pages::sealed(&rt)?;
     pages::print(&rt, file)?;
     pages::opens(&rt, file)?;
-    roll::roll_call(&rt, b"season", &file)?;
+    roll::roll_call(&rt, "season", &file)?;
     damage::every_byte(&rt, file)?;
     damage::roll_calls(&rt, file)?;
     refusals::opens(&rt, file)?;

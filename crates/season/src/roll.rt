@@ -1,9 +1,9 @@
 // What an open gives and leaves. A look says it in a word, and a roll call is a line of looks at every page of the season.
 ghost use Rattle.std.specs.Prelude.{◌≤◌};
 
+use crate::season;
 use crate::season::Page;
-use crate::{report, season};
-use page_file::Opened;
+use scope::Refusal;
 use std::io;
 
 // What stands at each place of an output before a call.
@@ -13,37 +13,28 @@ pub fn fresh() -> [u8; 480] {
     [BEFORE; 480]
 }
 
-fn expected(p: Page, n: u64, i: usize) -> u8 {
-    if (i as u64) < n {
-        return season::byte(p, i);
-    }
-    BEFORE
+fn expected(p: Page, n: usize, i: usize) -> u8 {
+    if i < n { season::byte(p, i) } else { BEFORE }
 }
 
 // Whether an output has n bytes of a page's text at its front, and behind them what stood there before.
-fn holds(out: [u8; 480], p: Page, n: u64) -> bool {
-    let mut all = true;
-    let mut i: usize = 0;
-    while i < 480 {
-        all = all & (out[i] == expected(p, n, i));
-        i += 1;
-    }
-    all
+fn holds(out: [u8; 480], p: Page, n: usize) -> bool {
+    out.iter().enumerate().all(|(i, b)| *b == expected(p, n, i))
 }
 
-fn accepted(rt: &impl Print, out: [u8; 480], p: Page, n: u64) -> io::Result<()> {
-    if (n == p.length as u64) & holds(out, p, n) {
-        report::text(rt, b"ok")
+fn accepted(rt: &impl Print, out: [u8; 480], p: Page, n: usize) -> io::Result<()> {
+    if n == p.length && holds(out, p, n) {
+        print!(rt; "ok")
     } else {
-        report::text(rt, b"wrong")
+        print!(rt; "wrong")
     }
 }
 
-fn refused(rt: &impl Print, out: [u8; 480], p: Page, n: u64) -> io::Result<()> {
+fn refused(rt: &impl Print, out: [u8; 480], p: Page, e: Refusal) -> io::Result<()> {
     if holds(out, p, 0) {
-        report::number(rt, n)
+        print!(rt; "{}", e.number())
     } else {
-        report::text(rt, b"wrong")
+        print!(rt; "wrong")
     }
 }
 
@@ -60,8 +51,8 @@ pub fn look_with(
 {
     let mut out = fresh();
     match page_file::open(key, stay, p.n, file, &mut out[0..room]) {
-        Opened::Written(n) => accepted(rt, out, p, n),
-        Opened::Refused(n) => refused(rt, out, p, n),
+        Ok(n) => accepted(rt, out, p, n),
+        Err(e) => refused(rt, out, p, e),
     }
 }
 
@@ -71,20 +62,11 @@ pub fn look(rt: &impl Print, p: Page, file: &[u8]) -> io::Result<()> {
     look_with(rt, &key, &stay, p, file, 480)
 }
 
-fn next(rt: &impl Print, place: u64, file: &[u8]) -> io::Result<()> {
-    report::text(rt, b" ")?;
-    look(rt, season::at(place), file)
-}
-
-pub fn roll_call(rt: &impl Print, label: &[u8], file: &[u8]) -> io::Result<()> {
-    report::text(rt, label)?;
-    report::text(rt, b":")?;
-    next(rt, 0, file)?;
-    next(rt, 1, file)?;
-    next(rt, 2, file)?;
-    next(rt, 3, file)?;
-    next(rt, 4, file)?;
-    next(rt, 5, file)?;
-    next(rt, 6, file)?;
-    report::text(rt, b"\n")
+pub fn roll_call(rt: &impl Print, label: &str, file: &[u8]) -> io::Result<()> {
+    print!(rt; "{label}:")?;
+    for place in 0..7 {
+        print!(rt; " ")?;
+        look(rt, season::at(place), file)?;
+    }
+    println!(rt)
 }

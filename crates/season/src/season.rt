@@ -1,6 +1,8 @@
 // The season: its key, its stays, the text of each page, and the places that the pages have in the file.
 ghost use Rattle.std.specs.Prelude.{◌≤◌, ◌≡◌};
 
+use scope::Refusal;
+
 const KEY: [u8; 32] = *b"\
     \x03\x0a\x11\x18\x1f\x26\x2d\x34\x3b\x42\x49\x50\x57\x5e\x65\x6c\
     \x73\x7a\x81\x88\x8f\x96\x9d\xa4\xab\xb2\xb9\xc0\xc7\xce\xd5\xdc";
@@ -75,26 +77,13 @@ pub fn byte(p: Page, k: usize) -> u8 {
     ((along + 31 * p.stay as u64 + 7 * p.n as u64 + 1) % 256) as u8
 }
 
-fn byte_or_zero(p: Page, k: usize) -> u8 {
-    if k < p.length {
-        return byte(p, k);
-    }
-    0
-}
-
 // A page's text, zeros behind it.
 pub fn text(p: Page) -> [u8; 475] {
-    let mut t = [0u8; 475];
-    let mut k = 0;
-    while k < 475 {
-        t[k] = byte_or_zero(p, k);
-        k += 1;
-    }
-    t
+    std::array::from_fn(|k| if k < p.length { byte(p, k) } else { 0 })
 }
 
 // Seals a page of the season on a day into a place of the file.
-pub fn seal(p: Page, day: u64, file: &mut [u8], place: u64) -> u64
+pub fn seal(p: Page, day: u64, file: &mut [u8], place: u64) -> Result<(), Refusal>
     requires { p.length ≤ 475 }
 {
     let key = key();

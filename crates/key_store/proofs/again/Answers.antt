@@ -1,18 +1,13 @@
 -- `key_store::again` meets its contract, by the block's mark and number as they are read from the store.
-use mathlib.Core.Path.{sym, ap, ◌∙◌}
-use mathlib.Core.List.{List}
-use Prim.Native.Nat.{ℕ}
-use borrow.Author.Tests.{eq-eqb, ne_eqb}
+use Rattle.std.proofs.Common.{ℕ, List, sym, ap, ◌∙◌}
 use Rattle.fields.specs.Blocks.{cut}
 use Rattle.key_store.specs.Store.{present, any}
-use Rattle.key_store.proofs.Surveying.{mark_read, iv_read}
+use Rattle.key_store.specs.declared.Mark.TheVariants.{Empty}
+use Rattle.key_store.proofs.Surveying.{mark_is, iv_read}
 use Rattle.key_store.proofs.again.Goals as goal
 
-pub returns-then-store-i-eq-EMPTY : goal.returns-then-store-i-eq-EMPTY
-returns-then-store-i-eq-EMPTY c =
-    let a = c.args in
-    let s = a.store.now in
-    rw (eq-eqb _ 0 (sym (mark_read s a.i) ∙ c.if-store-i-eq-EMPTY.true))
+pub returns-then-eq : goal.returns-then-eq
+returns-then-eq c = rw (sym (mark_is c.args.store.now c.args.i c.read.result Empty c.read.ensures) ∙ sym c.eq.ensures ∙ c.if-eq.true)
 
 pub returns : goal.returns
 returns c =
@@ -20,4 +15,4 @@ returns c =
     let s = a.store.now in
     c.present.ensures
     ∙ ap (λ (v : List ℕ). any (present v) (cut a.i s)) (c.load.ensures ∙ iv_read s a.i)
-    ∙ rw (ne_eqb _ 0 (λ h. c.if-store-i-eq-EMPTY.false (mark_read s a.i ∙ h)))
+    ∙ rw (sym (mark_is s a.i c.read.result Empty c.read.ensures) ∙ sym c.eq.ensures ∙ c.if-eq.false)

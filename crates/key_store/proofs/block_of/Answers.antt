@@ -16,8 +16,8 @@ use Rattle.key_store.specs.Layout.{body, block_of}
 use Rattle.key_store.proofs.block_of.Goals as goal
 use Rattle.key_store.proofs.block_of.Goals.{Start}
 
-sealed-long : (c : Start) → length c.args.sealed ≡ 32
-sealed-long c = search rules
+sealed_long : (c : Start) → length c.args.sealed ≡ 32
+sealed_long c = search rules
 
 -- the sealed key by its halves
 halves : (s x y : List ℕ) → length s ≡ 32 → x ≡ part 0 16 s → y ≡ part 16 16 s → x ++ y ≡ s
@@ -32,16 +32,17 @@ returns c =
     let v = bytes_of c.load-2.result in
     let iv = bytes_of a.iv in
     let tag = bytes_of a.tag in
-    let f1 = front_put (front_none 512) (a.mark ∷ []) 1 _ refl (lit≤ tt) refl in
+    let f1 = front_put (front_none 512) (c.number.result ∷ []) 1 _ refl (lit≤ tt) refl in
     let f16 = front_skip f1 15 (lit≤ tt) in
     let f32 = front_put f16 iv 16 _ (bytes_of_block a.iv).long (lit≤ tt) c.store.ensures in
     let f48 = front_put f32 u 16 _ (bytes_of_block c.load.result).long (lit≤ tt) c.store-2.ensures in
     let f64 = front_put f48 v 16 _ (bytes_of_block c.load-2.result).long (lit≤ tt) c.store-3.ensures in
     let f80 = front_put f64 tag 16 _ (bytes_of_block a.tag).long (lit≤ tt) c.store-4.ensures in
     let f508 = front_skip f80 428 (lit≤ tt) in
-    let pre : List ℕ = (a.mark ∷ []) ++ replicate 15 0 ++ iv in
+    let pre : List ℕ = (c.number.result ∷ []) ++ replicate 15 0 ++ iv in
     let e : pre ++ u ++ v ++ tag ++ replicate 428 0 ≡ pre ++ a.sealed ++ tag ++ replicate 428 0 =
     ap (λ (l : List ℕ). l ++ tag ++ replicate 428 0)
-    (append_assoc pre u v ∙ ap (λ (l : List ℕ). pre ++ l) (halves a.sealed u v (sealed-long (goal.at.returns c).Start) c.load.ensures c.load-2.ensures)) in
+    (append_assoc pre u v ∙ ap (λ (l : List ℕ). pre ++ l) (halves a.sealed u v (sealed_long (goal.at.returns c).Start) c.load.ensures c.load-2.ensures)) in
     c.put_check.ensures
     ∙ ap checked (ap (take 508) f508.is ∙ take_at (pre ++ u ++ v ++ tag ++ replicate 428 0) (replicate 4 0) 508 f508.long ∙ e)
+    ∙ ap (λ (m : ℕ). block_of (record { mark = m; iv = iv; sealed = a.sealed; tag = tag })) c.number.ensures

@@ -3,7 +3,8 @@ use Rattle.std.proofs.Common.{◌≡◌, ℕ, ◌+◌, ◌-◌, ◌*◌, length,
 use Rattle.std.proofs.lemmas.Result.{err_from_is_err_and}
 use Rattle.words.proofs.Parts.{part_long}
 use Rattle.key_store.specs.Layout.{well_laid}
-use Rattle.key_store.proofs.Numbers.{none_given, erase_iv, erase_broken, erase_none, erase_placed, held_laid, held_inside}
+use Rattle.scope.specs.declared.Refusal.TheVariants.{NoKey}
+use Rattle.key_store.proofs.Numbers.{erase_iv, erase_broken, erase_none, erase_placed, held_laid, held_inside}
 use Rattle.key_store.proofs.erase.Goals as goal
 
 pub returns-then-iv-ne16 : goal.returns-then-iv-ne16
@@ -21,9 +22,11 @@ pub returns-in_err-at : goal.returns-in_err-at
 returns-in_err-at c =
     let a = c.args in
     let q = err_from_is_err_and c.from_residual.result c.from_residual.ensures.1 in
-    let n = none_given c.survey-s.result.holding c.in_err-at.ensures.value in
-    let p = erase_none a.iv.now a.store.now c.if-iv-ne16.false c.survey-s.result c.survey-s.ensures c.if-not-s.false n.0 in
-    record { answer = rw (q.1, q.2, n.1) p.0; store = p.1 }
+    let none = c.in_err-at.ensures.ok_part in
+    let given = rw none at c.in_err-at.ensures.value in
+    let e : c.in_err-at.field-0.0 ≡ NoKey = cc in
+    let p = erase_none a.iv.now a.store.now c.if-iv-ne16.false c.survey-s.result c.survey-s.ensures c.if-not-s.false none in
+    record { answer = rw (q.1, q.2, e) p.0; store = p.1 }
 
 pub erase_block-requires : goal.erase_block-requires
 erase_block-requires c =

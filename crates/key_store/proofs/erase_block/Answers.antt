@@ -1,15 +1,11 @@
 -- `key_store::erase_block` meets its contract: what it writes and what it leaves are the erased block, since the block obeys the rules.
-use mathlib.Core.Path.{◌≡◌, sym, ap, ◌∙◌}
-use mathlib.Core.List.{List}
-use Prim.Native.Nat.{ℕ}
-use native.Mathlib.Omega.{arith}
-use lib.ListN.{length, set, take, length-set}
-use lib.Seq.{sets, length-sets, length-take-le}
+use Rattle.std.proofs.Common.{◌≡◌, ℕ, List, length, set, take, sym, ap, ◌∙◌, arith, length-set, length-take-le}
+use Rattle.std.proofs.Math.Seq.{sets, length-sets}
 use Rattle.words.specs.Machine.{bytes_of}
 use Rattle.fields.proofs.Checked.{checked_long}
 use Rattle.key_store.proofs.Erasing.{erased_in_place}
 use Rattle.key_store.proofs.erase_block.Goals as goal
-use Rattle.key_store.proofs.erase_block.Goals.{After-store, After-store-2, After-store-3, After-store-arg-1}
+use Rattle.key_store.proofs.erase_block.Goals.{After-store, After-store-2, After-store-3}
 
 pub returns : goal.returns
 returns c =
@@ -17,27 +13,27 @@ returns c =
     c.store-2.ensures c.store-3.ensures c.put_check.ensures
 
 -- as long as it was
-still : (l : List ℕ) (i : ℕ) (v : List ℕ) {r : List ℕ} → length l ≡ 512 → r ≡ sets l i v → length r ≡ 512
-still l i v h e = ap length e ∙ length-sets l i v ∙ h
+module _ (b z : List ℕ) (h : length b ≡ 512) where
+  long1 : {b1 : List ℕ} → b1 ≡ sets (set b 0 2) 32 z → length b1 ≡ 512
+  long1 e = ap length e ∙ length-sets (set b 0 2) 32 z ∙ length-set b 0 2 ∙ h
 
-marked : (c : After-store-arg-1) → length (set c.args.block.now 0 2) ≡ 512
-marked c = length-set c.args.block.now 0 2 ∙ c.requires.0
+  long2 : {b1 b2 : List ℕ} → b1 ≡ sets (set b 0 2) 32 z → b2 ≡ sets b1 48 z → length b2 ≡ 512
+  long2 {b1} e f = ap length f ∙ length-sets b1 48 z ∙ long1 e
+
+  long3 : {b1 b2 b3 : List ℕ} → b1 ≡ sets (set b 0 2) 32 z → b2 ≡ sets b1 48 z → b3 ≡ sets b2 64 z → length b3 ≡ 512
+  long3 {b1} {b2} e f g = ap length g ∙ length-sets b2 64 z ∙ long2 e f
 
 first : (c : After-store) → length c.store.new.out ≡ 512
-first c =
-    let marked : length (set c.args.block.now 0 2) ≡ 512 = length-set c.args.block.now 0 2 ∙ c.requires.0 in still _ 32 (bytes_of c.zero-none.result) marked c.store.ensures
+first c = long1 c.args.block.now (bytes_of c.zero-none.result) c.requires.0 c.store.ensures
 
 second : (c : After-store-2) → length c.store-2.new.out ≡ 512
-second c =
-    let first : length c.store.new.out ≡ 512 = let marked : length (set c.args.block.now 0 2) ≡ 512 = length-set c.args.block.now 0 2 ∙ c.requires.0 in still _ 32 (bytes_of c.zero-none.result) marked c.store.ensures in still _ 48 (bytes_of c.zero-none.result) first c.store-2.ensures
+second c = long2 c.args.block.now (bytes_of c.zero-none.result) c.requires.0 c.store.ensures c.store-2.ensures
 
 third : (c : After-store-3) → length c.store-3.new.out ≡ 512
-third c =
-    let second : length c.store-2.new.out ≡ 512 = let first : length c.store.new.out ≡ 512 = let marked : length (set c.args.block.now 0 2) ≡ 512 = length-set c.args.block.now 0 2 ∙ c.requires.0 in still _ 32 (bytes_of c.zero-none.result) marked c.store.ensures in still _ 48 (bytes_of c.zero-none.result) first c.store-2.ensures in
-    still _ 64 (bytes_of c.zero-none.result) second c.store-3.ensures
+third c = long3 c.args.block.now (bytes_of c.zero-none.result) c.requires.0 c.store.ensures c.store-2.ensures c.store-3.ensures
 
 pub store-requires : goal.store-requires
-store-requires c = omega (arith, marked (goal.at.store-requires c).After-store-arg-1)
+store-requires c = let l = length-set c.args.block.now 0 2 in omega arith
 
 pub store-requires-2 : goal.store-requires-2
 store-requires-2 c = omega (arith, first (goal.at.store-requires-2 c).After-store)
@@ -52,5 +48,5 @@ pub shape_of-block : goal.shape_of-block
 shape_of-block c =
     let l = third (goal.at.shape_of-block c).After-store-3 in
     ap length c.put_check.ensures
-    ∙ checked_long (take 508 c.store-3.new.out) (length-take-le 508 c.store-3.new.out (omega (arith, l)))
+    ∙ checked_long (take 508 c.store-3.new.out) (length-take-le 508 c.store-3.new.out (omega arith))
     ∙ sym c.requires.0

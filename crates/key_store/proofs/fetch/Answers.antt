@@ -1,7 +1,8 @@
 -- `key_store::fetch` meets its contract, by what it finds in the order of its refusals; the block that it opens is the one at the place surveyed.
 use Rattle.std.proofs.Common.{◌≡◌, ℕ, ◌+◌, ◌-◌, ◌*◌, take, drop, ap, arith, rules}
 use Rattle.std.proofs.lemmas.Result.{err_from_is_err_and}
-use Rattle.key_store.proofs.Numbers.{none_given, fetch_key_length, fetch_iv, fetch_broken, fetch_absent, fetch_opened, held_inside}
+use Rattle.scope.specs.declared.Refusal.TheVariants.{NoKey}
+use Rattle.key_store.proofs.Numbers.{fetch_key_length, fetch_iv, fetch_broken, fetch_absent, fetch_opened, held_inside}
 use Rattle.key_store.proofs.fetch.Goals as goal
 
 pub returns-then-key-ne32 : goal.returns-then-key-ne32
@@ -25,11 +26,13 @@ pub returns-in_err-at : goal.returns-in_err-at
 returns-in_err-at c =
     let a = c.args in
     let q = err_from_is_err_and c.from_residual.result c.from_residual.ensures.1 in
-    let n = none_given c.survey-s.result.holding c.in_err-at.ensures.value in
+    let none = c.in_err-at.ensures.ok_part in
+    let given = rw none at c.in_err-at.ensures.value in
+    let e : c.in_err-at.field-0.0 ≡ NoKey = cc in
     let p =
     fetch_absent a.key.now a.iv.now a.store.now c.if-key-ne32.false c.if-iv-ne16.false c.survey-s.result c.survey-s.ensures c.if-not-s.false
-    n.0 in
-    record { answer = rw (q.1, q.2, n.1) p.0; key = rw q.1 p.1 }
+    none in
+    record { answer = rw (q.1, q.2, e) p.0; key = rw q.1 p.1 }
 
 pub returns : goal.returns
 returns c =

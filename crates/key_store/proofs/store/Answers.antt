@@ -1,8 +1,9 @@
 -- `key_store::store` meets its contract, by what it finds in the order of its refusals.
-use Rattle.std.proofs.Common.{ℕ, List, sym, ap, ◌∙◌}
+use Rattle.std.proofs.Common.{◌≡◌, ℕ, List, sym, ap, ◌∙◌}
 use Rattle.std.proofs.lemmas.Result.{err_from_is_err_and}
 use Rattle.fields.specs.Blocks.{replaced}
-use Rattle.key_store.proofs.Numbers.{none_given, store_key, store_stay_key, store_iv, store_broken, store_there, store_full, store_placed, empty_inside}
+use Rattle.scope.specs.declared.Refusal.TheVariants.{ShortOutput}
+use Rattle.key_store.proofs.Numbers.{store_key, store_stay_key, store_iv, store_broken, store_there, store_full, store_placed, empty_inside}
 use Rattle.key_store.proofs.store.Goals as goal
 
 pub returns-then-key-ne32 : goal.returns-then-key-ne32
@@ -42,11 +43,13 @@ pub returns-in_err-i : goal.returns-in_err-i
 returns-in_err-i c =
     let a = c.args in
     let q = err_from_is_err_and c.from_residual.result c.from_residual.ensures.1 in
-    let n = none_given c.survey-s.result.empty c.in_err-i.ensures.value in
+    let none = c.in_err-i.ensures.ok_part in
+    let given = rw none at c.in_err-i.ensures.value in
+    let e : c.in_err-i.field-0.0 ≡ ShortOutput = cc in
     let p =
     store_full a.key.now a.iv.now a.stay_key.now a.store.now c.if-key-ne32.false c.if-stay_key-ne32.false c.if-iv-ne16.false
-    c.survey-s.result c.survey-s.ensures c.if-not-s.false (sym c.is_some.ensures ∙ c.if-is_some.false) n.0 in
-    record { answer = rw (q.1, q.2, n.1) p.0; store = p.1 }
+    c.survey-s.result c.survey-s.ensures c.if-not-s.false (sym c.is_some.ensures ∙ c.if-is_some.false) none in
+    record { answer = rw (q.1, q.2, e) p.0; store = p.1 }
 
 pub put_block-requires : goal.put_block-requires
 put_block-requires c =

@@ -1,15 +1,13 @@
 -- `page_file::read` meets its contract, by what it finds in the order of its refusals; the page that it reads is the one at the place surveyed.
-use Rattle.std.proofs.Common.{◌≡◌, ℕ, ◌+◌, ◌-◌, ◌*◌, ◌≤◌, List, length, take, drop, Option, Some, None, Err, refl, sym, ap, subst, ◌∙◌, arith, rules}
-use Rattle.std.specs.Option.{ok_or}
+use Rattle.std.proofs.Common.{◌≡◌, ℕ, ◌*◌, ◌≤◌, List, length, sym, ap, subst, ◌∙◌, rules}
 use Rattle.std.proofs.lemmas.Result.{err_from_is_err_and}
 use Rattle.scope.specs.Limits.{most_page_text}
-use Rattle.scope.specs.declared.Refusal.{Refusal}
 use Rattle.scope.specs.declared.Refusal.TheVariants.{BadStay}
-use Rattle.words.specs.Bytes.{part}
 use Rattle.words.proofs.Parts.{part_long}
 use Rattle.page_file.specs.Layout.{text_length}
 use Rattle.page_file.specs.Calls.{page_open_number, page_of}
 use Rattle.page_file.specs.Inner.{Finds}
+use Rattle.page_file.proofs.Pages.{lent_part}
 use Rattle.page_file.proofs.Opening.{no_key, no_stay, not_whole, out_of_range, disordered, no_place, Found, place_found}
 use Rattle.page_file.proofs.read.Goals as goal
 use Rattle.page_file.proofs.read.Goals.{In_ok-at}
@@ -38,19 +36,16 @@ returns-then-not-s-2 c =
     disordered a.key.now a.stay.now a.n a.file.now a.room c.if-key-ne32.false c.if-stay-ne12.false c.if-file-ne0.false
     c.survey-s.result c.survey-s.ensures c.if-not-s.false c.if-not-s-2.true
 
--- a place that is lacking is answered with the error given for it
-none_given : (o : Option ℕ) (e : Refusal) → Err e ≡ ok_or o BadStay → (o ≡ None) × (e ≡ BadStay)
-none_given None e h = (refl, cc)
-none_given (Some j) e h = cc
-
 pub returns-in_err-at : goal.returns-in_err-at
 returns-in_err-at c =
     let a = c.args in
     let p = err_from_is_err_and c.from_residual.result c.from_residual.ensures.1 in
-    let q = none_given c.survey-s.result.place c.in_err-at.field-0.0 c.in_err-at.ensures.value in
-    rw (p.1, p.2, q.1)
+    let none = c.in_err-at.ensures.ok_part in
+    let given = rw none at c.in_err-at.ensures.value in
+    let e : c.in_err-at.field-0.0 ≡ BadStay = cc in
+    rw (p.1, p.2, e)
     (no_place a.key.now a.stay.now a.n a.file.now a.room c.if-key-ne32.false c.if-stay-ne12.false c.if-file-ne0.false
-    c.survey-s.result c.survey-s.ensures c.if-not-s.false q.0)
+    c.survey-s.result c.survey-s.ensures c.if-not-s.false none)
 
 -- ---- with the page found
 
@@ -60,18 +55,14 @@ found c =
     place_found a.key.now a.stay.now a.n a.file.now a.room c.if-key-ne32.false c.if-stay-ne12.false c.if-file-ne0.false
     c.survey-s.result c.survey-s.ensures c.if-not-s.false c.if-not-s-2.false c.in_ok-at.field-0 c.in_ok-at.ensures.ok_part
 
--- the part that is lent
-lent : (f : List ℕ) (i : ℕ) → take (512 * i + 512 - 512 * i) (drop (512 * i) f) ≡ part (512 * i) 512 f
-lent f i = ap (λ (k : ℕ). take k (drop (512 * i) f)) (let e : 512 * i + 512 - 512 * i ≡ 512 = omega arith in e)
-
 pub read_page-requires : goal.read_page-requires
 read_page-requires c =
     let g = found (goal.at.read_page-requires c).In_ok-at in
     let f = c.args.file.now in
     let j = c.in_ok-at.field-0 in (
       c.if-key-ne32.false,
-      ap length (lent f j) ∙ part_long f (512 * j) 512 g.inside,
-      subst (λ (b : List ℕ). text_length b ≤ most_page_text) (sym (lent f j)) g.fits,
+      ap length (lent_part f j) ∙ part_long f (512 * j) 512 g.inside,
+      subst (λ (b : List ℕ). text_length b ≤ most_page_text) (sym (lent_part f j)) g.fits,
     )
 
 pub returns : goal.returns
@@ -81,7 +72,7 @@ returns c =
     let f = a.file.now in
     let g = found (goal.at.returns c).In_ok-at in
     subst (λ (m : ℕ). Finds m key (page_of a.stay.now a.n f) c.read_page.result) g.number
-    (subst (λ (b : List ℕ). Finds (page_open_number key b a.room) key b c.read_page.result) (lent f c.in_ok-at.field-0 ∙ g.page) c.read_page.ensures)
+    (subst (λ (b : List ℕ). Finds (page_open_number key b a.room) key b c.read_page.result) (lent_part f c.in_ok-at.field-0 ∙ g.page) c.read_page.ensures)
 
 pub overflow_mul-at : goal.overflow_mul-at
 overflow_mul-at c = let h = (found (goal.at.overflow_mul-at c).In_ok-at).inside in search rules

@@ -1,16 +1,12 @@
 -- `page_file::survey` meets its contract: at each turn, what is known is known of the pages up to there.
-use Rattle.std.proofs.Common.{◌≡◌, ℕ, ◌+◌, ◌-◌, ◌*◌, ◌/◌, List, [], ◌∷◌, ◌++◌, length, take, drop, sym, ap, subst, ◌∙◌, arith}
-use Rattle.words.specs.Bytes.{part}
+use Rattle.std.proofs.Common.{◌≡◌, ℕ, ◌*◌, ◌/◌, List, [], ◌∷◌, ◌++◌, length, sym, ap, subst, ◌∙◌, arith}
 use Rattle.words.proofs.Parts.{part_long}
 use Rattle.fields.specs.Blocks.{cut, blocks}
 use Rattle.fields.proofs.Blocks.{cut_long, cut_more}
 use Rattle.page_file.specs.Inner.{Surveyed}
+use Rattle.page_file.proofs.Pages.{lent_part}
 use Rattle.page_file.proofs.Surveying.{seen_none, seen_fewer}
 use Rattle.page_file.proofs.survey.Goals as goal
-
--- the part that is lent
-lent : (f : List ℕ) (i : ℕ) → take (512 * i + 512 - 512 * i) (drop (512 * i) f) ≡ part (512 * i) 512 f
-lent f i = ap (λ (k : ℕ). take k (drop (512 * i) f)) (let e : 512 * i + 512 - 512 * i ≡ 512 = omega arith in e)
 
 pub loop-i-init : goal.loop-i-init
 loop-i-init c = let a = c.args in seen_none a.stay.now a.n a.file.now
@@ -21,7 +17,7 @@ look-s-requires c =
     let a = c.args in
     let f = a.file.now in
     let few = seen_fewer a.stay.now a.n l.i f l.s l.invariant in (
-      ap length (lent f l.i) ∙ part_long f (512 * l.i) 512 (omega arith),
+      ap length (lent_part f l.i) ∙ part_long f (512 * l.i) 512 (omega arith),
       c.requires,
       omega arith,
     )
@@ -32,7 +28,7 @@ loop-i-preserved c =
     let a = c.args in
     let f = a.file.now in
     subst (λ (bs : List (List ℕ)). Surveyed a.stay.now a.n bs c.look-s.result)
-    (ap (λ (b : List ℕ). cut l.i f ++ b ∷ []) (lent f l.i) ∙ sym (cut_more l.i f)) (c.look-s.ensures (cut l.i f) (cut_long l.i f) l.invariant)
+    (ap (λ (b : List ℕ). cut l.i f ++ b ∷ []) (lent_part f l.i) ∙ sym (cut_more l.i f)) (c.look-s.ensures (cut l.i f) (cut_long l.i f) l.invariant)
 
 pub returns : goal.returns
 unfolding blocks
