@@ -1,5 +1,5 @@
 // The static library for C: each call of the crate `tulvekas` under its own name, with its clauses. A crate is a library for Rattle or for C, not both, so these
-// exports stand in a crate of their own, and each hands on what it was handed. include/tulvekas.h is the manual.
+// exports stand in a crate of their own, and each hands on what it was handed and answers the number. include/tulvekas.h is the manual.
 #![tactic(auto)]
 
 ghost use Rattle.std.specs.Prelude.{◌≡◌};
@@ -37,7 +37,7 @@ pub extern "C" fn tulvekas_seal(
     ensures out { out.new ≡ seal_writes key.now iv.now ad.now text.now out.old tag.old }
     ensures tag { tag.new ≡ seal_writes_tag key.now iv.now ad.now text.now out.old tag.old }
 {
-    tulvekas::tulvekas_seal(key, iv, ad, text, out, tag)
+    scope::number(tulvekas::tulvekas_seal(key, iv, ad, text, out, tag))
 }
 
 // Opens a page, if its tag is the right one, and writes no byte of the text before that is known. Refused: 1, 2, 10, 3, 4, 5.
@@ -53,7 +53,7 @@ pub extern "C" fn tulvekas_open(
     ensures answer { result ≡ open_number key.now iv.now ad.now cipher.now tag.now out.old }
     ensures out { out.new ≡ open_out key.now iv.now ad.now cipher.now tag.now out.old }
 {
-    tulvekas::tulvekas_open(key, iv, ad, cipher, tag, out)
+    scope::number(tulvekas::tulvekas_open(key, iv, ad, cipher, tag, out))
 }
 
 // ---- page files: document 02's stay books
@@ -72,7 +72,7 @@ pub extern "C" fn tulvekas_file_seal(
     ensures answer { result ≡ Files.seal_number key.now stay.now day text.now file.old place }
     ensures file { file.new ≡ Files.seal_file key.now stay.now page day text.now file.old place }
 {
-    tulvekas::tulvekas_file_seal(key, stay, page, day, text, place, file)
+    scope::number(tulvekas::tulvekas_file_seal(key, stay, page, day, text, place, file))
 }
 
 // Opens page `page` of a stay, and writes no byte before nothing is refused: its text, and how many bytes that has, 8 bytes low byte first. Refused: 1, 2
@@ -90,7 +90,7 @@ pub extern "C" fn tulvekas_file_open(
     ensures out { out.new ≡ file_open_writes key.now stay.now page file.now out.old length.old }
     ensures length { length.new ≡ file_open_length key.now stay.now page file.now out.old length.old }
 {
-    tulvekas::tulvekas_file_open(key, stay, page, file, out, length)
+    scope::number(tulvekas::tulvekas_file_open(key, stay, page, file, out, length))
 }
 
 // ---- key stores: document 02's shelves
@@ -107,7 +107,7 @@ pub extern "C" fn tulvekas_keys_store(
     ensures answer { result ≡ store_number key.now iv.now stay_key.now store.old }
     ensures store { store.new ≡ store_after key.now iv.now stay_key.now store.old }
 {
-    tulvekas::tulvekas_keys_store(key, iv, stay_key, store)
+    scope::number(tulvekas::tulvekas_keys_store(key, iv, stay_key, store))
 }
 
 // Fetches a stay's key, 32 bytes. Refused: 1, 2, 8, 17 for a number that is absent or erased, 5, 4.
@@ -116,7 +116,7 @@ pub extern "C" fn tulvekas_keys_fetch(key: &[u8], iv: &[u8], store: &[u8], out: 
     ensures answer { result ≡ keys_fetch_answer key.now iv.now store.now out.old }
     ensures out { out.new ≡ keys_fetch_writes key.now iv.now store.now out.old }
 {
-    tulvekas::tulvekas_keys_fetch(key, iv, store, out)
+    scope::number(tulvekas::tulvekas_keys_fetch(key, iv, store, out))
 }
 
 // Erases a stay's key; it takes none. Refused: 2, 8, 17 for a number that is absent or erased.
@@ -125,7 +125,7 @@ pub extern "C" fn tulvekas_keys_erase(iv: &[u8], store: &mut [u8]) -> u64
     ensures answer { result ≡ erase_number iv.now store.old }
     ensures store { store.new ≡ erase_after iv.now store.old }
 {
-    tulvekas::tulvekas_keys_erase(iv, store)
+    scope::number(tulvekas::tulvekas_keys_erase(iv, store))
 }
 
 // ---- sealing by pieces
@@ -136,7 +136,7 @@ pub extern "C" fn tulvekas_begin(key: &[u8], iv: &[u8], session: &mut [u8]) -> u
     ensures answer { result ≡ begin_answer key.now iv.now session.old }
     ensures session { BeginLeaves key.now iv.now session.old session.new }
 {
-    tulvekas::tulvekas_begin(key, iv, session)
+    scope::number(tulvekas::tulvekas_begin(key, iv, session))
 }
 
 // Takes a piece of associated data. Refused: 8 for a session that is not 240 bytes, 7, 3.
@@ -145,7 +145,7 @@ pub extern "C" fn tulvekas_data(session: &mut [u8], piece: &[u8]) -> u64
     ensures answer { result ≡ data_answer session.old piece.now }
     ensures session { DataLeaves session.old piece.now session.new }
 {
-    tulvekas::tulvekas_data(session, piece)
+    scope::number(tulvekas::tulvekas_data(session, piece))
 }
 
 // Takes a piece of text and writes as many bytes of ciphertext. Refused: 8 for a session that is not 240 bytes, 7, 3, 9, 4.
@@ -155,7 +155,7 @@ pub extern "C" fn tulvekas_text(session: &mut [u8], piece: &[u8], out: &mut [u8]
     ensures session { TextLeaves session.old piece.now out.old session.new }
     ensures out { out.new ≡ text_writes session.old piece.now out.old }
 {
-    tulvekas::tulvekas_text(session, piece, out)
+    scope::number(tulvekas::tulvekas_text(session, piece, out))
 }
 
 // Ends a session and gives its tag and its IV. Refused: 8 for a session that is not 240 bytes, 7, 4 for either buffer.
@@ -166,7 +166,7 @@ pub extern "C" fn tulvekas_finish(session: &mut [u8], tag: &mut [u8], iv: &mut [
     ensures tag { tag.new ≡ finish_writes_tag session.old tag.old iv.old }
     ensures iv { iv.new ≡ finish_writes_iv session.old tag.old iv.old }
 {
-    tulvekas::tulvekas_finish(session, tag, iv)
+    scope::number(tulvekas::tulvekas_finish(session, tag, iv))
 }
 
 // ---- suspend and resume: document 01's park and take up
@@ -177,7 +177,7 @@ pub extern "C" fn tulvekas_suspend(session: &[u8], block: &mut [u8]) -> u64
     ensures answer { result ≡ suspend_answer session.now block.old }
     ensures block { block.new ≡ suspend_writes session.now block.old }
 {
-    tulvekas::tulvekas_suspend(session, block)
+    scope::number(tulvekas::tulvekas_suspend(session, block))
 }
 
 // Gives the session that a block was written for, and its IV. Refused: 1, 8, 6, 4 for either buffer.
@@ -192,7 +192,7 @@ pub extern "C" fn tulvekas_resume(
     ensures session { ResumeLeaves key.now block.now session.old iv.old session.new }
     ensures iv { iv.new ≡ resume_writes key.now block.now session.old iv.old }
 {
-    tulvekas::tulvekas_resume(key, block, session, iv)
+    scope::number(tulvekas::tulvekas_resume(key, block, session, iv))
 }
 
 // ---- the cipher
@@ -203,7 +203,7 @@ pub extern "C" fn tulvekas_keystream(key: &[u8], iv: &[u8], sealed: u64, out: &m
     ensures answer { result ≡ keystream_answer key.now iv.now out.old }
     ensures out { out.new ≡ keystream_writes key.now iv.now sealed out.old }
 {
-    tulvekas::tulvekas_keystream(key, iv, sealed, out)
+    scope::number(tulvekas::tulvekas_keystream(key, iv, sealed, out))
 }
 
 // Starts: the state, its count 0, in the front 120 bytes of the buffer. The mode is 0 for plain, else sealed. Refused: 1, 2, 4.
@@ -212,7 +212,7 @@ pub extern "C" fn tulvekas_start(key: &[u8], iv: &[u8], sealed: u64, state: &mut
     ensures answer { result ≡ start_answer key.now iv.now state.old }
     ensures state { StartLeaves key.now iv.now sealed state.old state.new }
 {
-    tulvekas::tulvekas_start(key, iv, sealed, state)
+    scope::number(tulvekas::tulvekas_start(key, iv, sealed, state))
 }
 
 // Runs a state n blocks on, or back unless `back` is 0: their blocks go to the front of the output in the order made. Refused: 8 for a state that is not
@@ -223,7 +223,7 @@ pub extern "C" fn tulvekas_run(state: &mut [u8], n: u64, back: u64, out: &mut [u
     ensures state { RunLeaves state.old n back out.old state.new }
     ensures out { out.new ≡ run_writes state.old n back out.old }
 {
-    tulvekas::tulvekas_run(state, n, back, out)
+    scope::number(tulvekas::tulvekas_run(state, n, back, out))
 }
 
 // The state of a suspended block, with its count, in the front 120 bytes of the buffer. Refused: 8 for a block that breaks a layout rule, 4.
@@ -232,7 +232,7 @@ pub extern "C" fn tulvekas_state_of(block: &[u8], state: &mut [u8]) -> u64
     ensures answer { result ≡ state_of_answer block.now state.old }
     ensures state { StateOfLeaves block.now state.old state.new }
 {
-    tulvekas::tulvekas_state_of(block, state)
+    scope::number(tulvekas::tulvekas_state_of(block, state))
 }
 
 // Document 01's trace, from a state at its own count: the IV, and one byte that becomes 0 for plain mode and 1 for sealed. Refused: 1, 8 for a state that
@@ -243,7 +243,7 @@ pub extern "C" fn tulvekas_trace(state: &[u8], key: &[u8], iv: &mut [u8], sealed
     ensures iv { iv.new ≡ trace_iv (trace_of_bytes state.now key.now) iv.old sealed.old }
     ensures sealed { sealed.new ≡ trace_sealed (trace_of_bytes state.now key.now) iv.old sealed.old }
 {
-    tulvekas::tulvekas_trace(state, key, iv, sealed)
+    scope::number(tulvekas::tulvekas_trace(state, key, iv, sealed))
 }
 
 // ---- the search for a count that is only roughly known
@@ -268,7 +268,7 @@ pub extern "C" fn tulvekas_search(
     ensures sealed { sealed.new ≡ search_sealed (Counts.search dump.now key.now lowest highest) count.old iv.old sealed.old steps.old }
     ensures steps { steps.new ≡ search_steps (Counts.search dump.now key.now lowest highest) count.old iv.old sealed.old steps.old }
 {
-    tulvekas::tulvekas_search(dump, key, lowest, highest, count, iv, sealed, steps)
+    scope::number(tulvekas::tulvekas_search(dump, key, lowest, highest, count, iv, sealed, steps))
 }
 
 // ---- the scheduler: document 02's desk
@@ -279,7 +279,7 @@ pub extern "C" fn tulvekas_schedule_empty(scheduler: &mut [u8]) -> u64
     ensures answer { result ≡ empty_answer scheduler.old }
     ensures scheduler { scheduler.new ≡ empty_writes scheduler.old }
 {
-    tulvekas::tulvekas_schedule_empty(scheduler)
+    scope::number(tulvekas::tulvekas_schedule_empty(scheduler))
 }
 
 // A stay joins, with as many bytes to seal as `length` says. Refused: 8 for a scheduler that is not 8,208 bytes, 1, 2, 3 for a length that is not 1 to 1,048,576, 19 where 32
@@ -294,7 +294,7 @@ pub extern "C" fn tulvekas_schedule_join(
     ensures answer { result ≡ join_answer scheduler.old key.now iv.now length }
     ensures scheduler { JoinLeaves scheduler.old key.now iv.now length scheduler.new }
 {
-    tulvekas::tulvekas_schedule_join(scheduler, key, iv, length)
+    scope::number(tulvekas::tulvekas_schedule_join(scheduler, key, iv, length))
 }
 
 // Says who is next: one byte that is 1 where anybody is there, and then the IV and the length of the piece that is due, 8 bytes low byte first. Refused: 8, 4 for any of the three
@@ -311,7 +311,7 @@ pub extern "C" fn tulvekas_schedule_next(
     ensures iv { iv.new ≡ asked_iv scheduler.now found.old iv.old due.old }
     ensures due { due.new ≡ asked_due scheduler.now found.old iv.old due.old }
 {
-    tulvekas::tulvekas_schedule_next(scheduler, found, iv, due)
+    scope::number(tulvekas::tulvekas_schedule_next(scheduler, found, iv, due))
 }
 
 // Gives a turn: seals the piece of the stay that comes next, and writes the IV of that stay, the number of the turn, 8 bytes low byte first, one byte that is 1 where the stay has
@@ -335,7 +335,7 @@ pub extern "C" fn tulvekas_schedule_turn(
     ensures done { done.new ≡ turned_done scheduler.old piece.now out.old (record { iv = iv.old; turn = turn.old; done = done.old; tag = tag.old }) }
     ensures tag { tag.new ≡ turned_tag scheduler.old piece.now out.old (record { iv = iv.old; turn = turn.old; done = done.old; tag = tag.old }) }
 {
-    tulvekas::tulvekas_schedule_turn(scheduler, piece, out, iv, turn, done, tag)
+    scope::number(tulvekas::tulvekas_schedule_turn(scheduler, piece, out, iv, turn, done, tag))
 }
 
 // ---- dates and keeping
@@ -346,7 +346,7 @@ pub extern "C" fn tulvekas_date(day: u64, date: &mut [u8]) -> u64
     ensures answer { result ≡ reply_answer (date_reply (to_date day)) date.old }
     ensures date { date.new ≡ reply_writes (date_reply (to_date day)) date.old }
 {
-    tulvekas::tulvekas_date(day, date)
+    scope::number(tulvekas::tulvekas_date(day, date))
 }
 
 // The day of a date, in 8 bytes, low byte first. Refused: 12 for a date that the calendar lacks or outside the years 2000 to 2199, 4.
@@ -355,7 +355,7 @@ pub extern "C" fn tulvekas_day(year: u64, month: u64, day: u64, number: &mut [u8
     ensures answer { result ≡ reply_answer (day_reply (to_day (Calendar.date year month day))) number.old }
     ensures number { number.new ≡ reply_writes (day_reply (to_day (Calendar.date year month day))) number.old }
 {
-    tulvekas::tulvekas_day(year, month, day, number)
+    scope::number(tulvekas::tulvekas_day(year, month, day, number))
 }
 
 // Whether a page is kept today, by the day of its departure: one byte that becomes 1 if it is, else 0. Refused: 12, 4.
@@ -364,7 +364,7 @@ pub extern "C" fn tulvekas_kept(today: u64, departure: u64, kept: &mut [u8]) -> 
     ensures answer { result ≡ reply_answer (kept_reply (keeping today departure)) kept.old }
     ensures kept { kept.new ≡ reply_writes (kept_reply (keeping today departure)) kept.old }
 {
-    tulvekas::tulvekas_kept(today, departure, kept)
+    scope::number(tulvekas::tulvekas_kept(today, departure, kept))
 }
 
 // The last date on which a page is kept, by the day of its departure, in four bytes as tulvekas_date writes them. Refused: 12, 4.
@@ -373,5 +373,5 @@ pub extern "C" fn tulvekas_kept_until(departure: u64, date: &mut [u8]) -> u64
     ensures answer { result ≡ reply_answer (date_reply (kept_until departure)) date.old }
     ensures date { date.new ≡ reply_writes (date_reply (kept_until departure)) date.old }
 {
-    tulvekas::tulvekas_kept_until(departure, date)
+    scope::number(tulvekas::tulvekas_kept_until(departure, date))
 }
