@@ -8,7 +8,7 @@ ghost use Rattle.scope.specs.Machine.{refusal_number, answer_number};
 use std::error::Error;
 use std::fmt;
 
-// A refusal, by its number.
+// Document 01's table of refusals, and document 02's from 13 on, by their numbers. 0 is the number of an accepted call.
 #[derive(Clone, Copy, Debug, PartialEq, Eq)]
 pub enum Refusal {
     KeyLength = 1,
@@ -57,47 +57,6 @@ pub fn number(answer: Result<(), Refusal>) -> u64
         Err(e) => e.number(),
     }
 }
-
-// Refusals. 0 is the number of an accepted call.
-pub const ACCEPTED: u64 = 0;
-
-pub const KEY_LENGTH: u64 = 1;
-
-pub const IV_LENGTH: u64 = 2;
-
-pub const TOO_LONG: u64 = 3;
-
-pub const SHORT_OUTPUT: u64 = 4;
-
-pub const BAD_TAG: u64 = 5;
-
-pub const NO_ORIGIN: u64 = 6;
-
-pub const OUT_OF_PHASE: u64 = 7;
-
-pub const BAD_BLOCK: u64 = 8;
-
-pub const COUNT_TOO_HIGH: u64 = 9;
-
-pub const TAG_LENGTH: u64 = 10;
-
-pub const MALFORMED: u64 = 11;
-
-pub const DAY_RANGE: u64 = 12;
-
-pub const BAD_FILE: u64 = 13;
-
-pub const BAD_STAY: u64 = 14;
-
-pub const BEFORE_START: u64 = 15;
-
-pub const NUMBER_TAKEN: u64 = 16;
-
-pub const NO_KEY: u64 = 17;
-
-pub const RANGE_ORDER: u64 = 18;
-
-pub const SCHEDULER_FULL: u64 = 19;
 
 // Limits: bytes of data and of text in a session, and blocks drawn.
 pub const MOST_DATA: u64 = 65535;
