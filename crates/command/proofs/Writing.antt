@@ -1,19 +1,12 @@
 -- What is printed, one text behind another.
 use mathlib.Core.Path.{◌≡◌, sym, ap, ap₂, ◌∙◌}
-use mathlib.Core.List.{List, ◌++◌, append_assoc}
-use borrow.Rule.Slice.PartMut.{put_mid}
+use mathlib.Core.List.{List, ◌++◌}
 use Prim.Native.Nat.{ℕ, ◌+◌, ◌≤◌}
 use native.Mathlib.Omega.{arith}
 use lib.ListN.{length, take, drop, length-append}
-use lib.Seq.{sets, sets-eq, length-take-le, drop-drop}
+use lib.Seq.{sets, sets-eq, length-take-le}
 use Rattle.words.proofs.Rows.{sets_append}
 use Rattle.command.specs.Machine.{Prints}
-
--- a text that is copied over a part of a list
-pub put_part : (l : List ℕ) (at k : ℕ) {v w : List ℕ} → w ≡ v → k ≡ length v → at + k ≤ length l → put_mid at k l w ≡ sets l at v
-put_part l at k {v} {w} e n h =
-    let m : at + length v ≤ length l = omega arith in
-    rw (e, n) (ap (λ (r : List ℕ). take at l ++ (v ++ r)) (drop-drop (length v) at l) ∙ sym (append_assoc (take at l) v (drop (at + length v) l))) ∙ sym (sets-eq v l at m)
 
 -- the bytes vs are printed at the front of a list, n of them
 pub record Printed (out₀ vs : List ℕ) (n : ℕ) (out : List ℕ) : Type 0 where

@@ -2,7 +2,7 @@
 use Prim.Native.Nat.{◌+◌, ◌-◌}
 use native.Mathlib.Omega.{arith}
 use lib.ListN.{length}
-use Rattle.command.proofs.Writing.{put_part}
+use Rattle.words.proofs.Writing.{put_part}
 use Rattle.command.proofs.put.Goals as goal
 
 pub returns-clause-out : goal.returns-clause-out
