@@ -35,12 +35,6 @@ returns-in_err-t c =
     let k = c.in_err-t.ensures in
     turn_refused a.scheduler.now a.piece.now a.out.now f e q k.answer k.scheduler k.out
 
-pub put-requires : goal.put-requires
-put-requires c = (roomy (goal.at.put-requires c).Else-not-fits).turn_room
-
-pub bounds-done-0 : goal.bounds-done-0
-bounds-done-0 c = (roomy (goal.at.bounds-done-0 c).Else-not-fits).done_room
-
 pub returns-in_default : goal.returns-in_default
 returns-in_default c =
     let a = c.args in
@@ -49,21 +43,6 @@ returns-in_default c =
     let k = rw c.in_default.is at c.in_ok-t.ensures in
     turn_nobody a.scheduler.now a.piece.now a.out.now f k.answer r.all r.done_room k.turn k.done k.scheduler k.out
     (c.put.ensures ∙ put_front a.turn.now (little 8 0) 8 (little_long 8 0) r.turn_room) refl
-
-pub put_block-requires : goal.put_block-requires
-put_block-requires c = (roomy (goal.at.put_block-requires c).Else-not-fits).iv_room
-
-pub put-requires-2 : goal.put-requires-2
-put-requires-2 c = (roomy (goal.at.put-requires-2 c).Else-not-fits).turn_room
-
-pub bounds-done-0-in_default-tag : goal.bounds-done-0-in_default-tag
-bounds-done-0-in_default-tag c = (roomy (goal.at.bounds-done-0-in_default-tag c).Else-not-fits).done_room
-
-pub bounds-done-0-2 : goal.bounds-done-0-2
-bounds-done-0-2 c = (roomy (goal.at.bounds-done-0-2 c).Else-not-fits).done_room
-
-pub put_block-requires-2 : goal.put_block-requires-2
-put_block-requires-2 c = (roomy (goal.at.put_block-requires-2 c).Else-not-fits).tag_room
 
 pub returns-in_default-tag : goal.returns-in_default-tag
 returns-in_default-tag c =
