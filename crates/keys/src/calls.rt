@@ -2,9 +2,9 @@
 ghost use Rattle.std.specs.Prelude.{◌≤◌};
 
 use crate::season;
-use key_store::Fetched;
+use scope::Refusal;
 
-pub fn store(n: u8, key: usize, iv: usize, stay_key: usize, kept: &mut [u8]) -> u64
+pub fn store(n: u8, key: usize, iv: usize, stay_key: usize, kept: &mut [u8]) -> Result<(), Refusal>
     requires { (key ≤ 32) × (iv ≤ 16) × (stay_key ≤ 32) }
 {
     let k = season::KEY;
@@ -13,7 +13,7 @@ pub fn store(n: u8, key: usize, iv: usize, stay_key: usize, kept: &mut [u8]) -> 
     key_store::store(&k[0..key], &i[0..iv], &s[0..stay_key], kept)
 }
 
-pub fn fetch(n: u8, key: usize, iv: usize, kept: &[u8]) -> Fetched
+pub fn fetch(n: u8, key: usize, iv: usize, kept: &[u8]) -> Result<[u8; 32], Refusal>
     requires { (key ≤ 32) × (iv ≤ 16) }
 {
     let k = season::KEY;
@@ -21,7 +21,7 @@ pub fn fetch(n: u8, key: usize, iv: usize, kept: &[u8]) -> Fetched
     key_store::fetch(&k[0..key], &i[0..iv], kept)
 }
 
-pub fn erase(n: u8, iv: usize, kept: &mut [u8]) -> u64
+pub fn erase(n: u8, iv: usize, kept: &mut [u8]) -> Result<(), Refusal>
     requires { iv ≤ 16 }
 {
     let i = season::iv(n);

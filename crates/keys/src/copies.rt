@@ -16,8 +16,8 @@ pub fn store(
     requires { (key ≤ 32) × (iv ≤ 16) × (stay_key ≤ 32) × (length ≤ 2048) }
 {
     let mut copy = kept;
-    let n = calls::store(5, key, iv, stay_key, &mut copy[0..length]);
-    report::number(rt, b"store ", n)
+    let answer = calls::store(5, key, iv, stay_key, &mut copy[0..length]);
+    print!(rt; "store {}", report::number(answer))
 }
 
 pub fn fetch(
@@ -29,24 +29,24 @@ pub fn fetch(
 ) -> io::Result<()>
     requires { (key ≤ 32) × (iv ≤ 16) × (length ≤ 2048) }
 {
-    let f = calls::fetch(1, key, iv, &kept[0..length]);
-    report::number(rt, b" fetch ", f.answer)
+    let answer = calls::fetch(1, key, iv, &kept[0..length]);
+    print!(rt; " fetch {}", report::number(answer))
 }
 
 pub fn erase(rt: &impl Print, iv: usize, kept: [u8; 2048], length: usize) -> io::Result<()>
     requires { (iv ≤ 16) × (length ≤ 2048) }
 {
     let mut copy = kept;
-    let n = calls::erase(1, iv, &mut copy[0..length]);
-    report::number(rt, b" erase ", n)
+    let answer = calls::erase(1, iv, &mut copy[0..length]);
+    print!(rt; " erase {}", report::number(answer))
 }
 
-pub fn line(rt: &impl Print, label: &[u8], kept: [u8; 2048], length: usize) -> io::Result<()>
+pub fn line(rt: &impl Print, label: &str, kept: [u8; 2048], length: usize) -> io::Result<()>
     requires { length ≤ 2048 }
 {
-    report::text(rt, label)?;
+    print!(rt; "{label}: ")?;
     store(rt, 32, 16, 32, kept, length)?;
     fetch(rt, 32, 16, kept, length)?;
     erase(rt, 16, kept, length)?;
-    report::text(rt, b"\n")
+    println!(rt)
 }

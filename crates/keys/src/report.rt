@@ -1,20 +1,13 @@
-// What the program writes: text, numbers and bytes in hex.
+// What the program writes of bytes, and the number that a call answers with.
+use scope::Refusal;
 use std::io;
 
-pub fn text(rt: &impl Print, t: &[u8]) -> io::Result<()> {
-    rt.write_all(t)
-}
-
-// A number, behind what is said of it.
-pub fn number(rt: &impl Print, label: &[u8], n: u64) -> io::Result<()> {
-    text(rt, label)?;
-    rt.print(n)
-}
-
-// What a call about stay n answers with.
-pub fn answer(rt: &impl Print, call: &[u8], n: u8, answer: u64) -> io::Result<()> {
-    number(rt, call, n as u64)?;
-    number(rt, b": ", answer)
+// The number of a call's answer, 0 where it is accepted.
+pub fn number<T: Copy>(answer: Result<T, Refusal>) -> u64 {
+    match answer {
+        Ok(_) => 0,
+        Err(e) => e.number(),
+    }
 }
 
 pub fn hex(rt: &impl Print, s: &[u8]) -> io::Result<()> {

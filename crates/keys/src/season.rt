@@ -10,13 +10,9 @@ pub const OTHER_KEY: [u8; 32] = *b"\
 
 // Bytes that each go on from the one before by a step, modulo 256.
 fn bytes(first: u8, step: u8) -> [u8; 32] {
-    let mut r = [0u8; 32];
-    let mut b = first;
-    let mut i: usize = 0;
-    while i < 32 {
-        r[i] = b;
-        b = std::num::wrapping_add_u8(b, step);
-        i += 1;
+    let mut r = [first; 32];
+    for i in 1..32 {
+        r[i] = r[i - 1].wrapping_add(step);
     }
     r
 }

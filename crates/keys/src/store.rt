@@ -5,32 +5,30 @@ use crate::{calls, report, season};
 use std::io;
 
 fn store(rt: &impl Print, n: u8, kept: &mut [u8]) -> io::Result<()> {
-    report::answer(rt, b"store ", n, calls::store(n, 32, 16, 32, kept))?;
-    report::text(rt, b"\n")
+    let answer = calls::store(n, 32, 16, 32, kept);
+    println!(rt; "store {n}: {}", report::number(answer))
 }
 
 fn fetch(rt: &impl Print, n: u8, kept: &[u8]) -> io::Result<()> {
-    let f = calls::fetch(n, 32, 16, kept);
-    let key = f.key;
-    report::answer(rt, b"fetch ", n, f.answer)?;
-    if f.answer == 0 {
-        report::text(rt, b" ")?;
+    let answer = calls::fetch(n, 32, 16, kept);
+    print!(rt; "fetch {n}: {}", report::number(answer))?;
+    if let Ok(key) = answer {
+        print!(rt; " ")?;
         report::hex(rt, &key)?;
     }
-    report::text(rt, b"\n")
+    println!(rt)
 }
 
 fn fetch_under_another_key(rt: &impl Print, kept: &[u8]) -> io::Result<()> {
     let key = season::OTHER_KEY;
     let iv = season::iv(2);
-    let f = key_store::fetch(&key, &iv, kept);
-    report::number(rt, b"fetch 2 under another key: ", f.answer)?;
-    report::text(rt, b"\n")
+    let answer = key_store::fetch(&key, &iv, kept);
+    println!(rt; "fetch 2 under another key: {}", report::number(answer))
 }
 
 fn erase(rt: &impl Print, n: u8, kept: &mut [u8]) -> io::Result<()> {
-    report::answer(rt, b"erase ", n, calls::erase(n, 16, kept))?;
-    report::text(rt, b"\n")
+    let answer = calls::erase(n, 16, kept);
+    println!(rt; "erase {n}: {}", report::number(answer))
 }
 
 // Three keys, and one that is there already.
@@ -72,17 +70,16 @@ fn block(rt: &impl Print, kept: [u8; 2048], j: usize) -> io::Result<()>
     requires { j < 4 }
 {
     let at = 512 * j;
-    report::number(rt, b"block ", j as u64)?;
-    report::text(rt, b": ")?;
+    print!(rt; "block {j}: ")?;
     report::hex(rt, &kept[at..at + 80])?;
-    report::text(rt, b" ")?;
+    print!(rt; " ")?;
     report::hex(rt, &kept[at + 508..at + 512])?;
-    report::text(rt, b"\n")
+    println!(rt)
 }
 
 pub fn print(rt: &impl Print, kept: [u8; 2048]) -> io::Result<()> {
-    block(rt, kept, 0)?;
-    block(rt, kept, 1)?;
-    block(rt, kept, 2)?;
-    block(rt, kept, 3)
+    for j in 0..4 {
+        block(rt, kept, j)?;
+    }
+    Ok(())
 }
