@@ -1,9 +1,6 @@
 -- A stay's key sealed and opened by the page's calls: with all lengths in order a seal gives ciphertext and tag, a wrong tag is the only refusal of an open, and
 -- a refused open leaves the zeros that it was lent.
-use Rattle.std.proofs.Common.{◌≡◌, ℕ, List, [], ◌++◌, length, drop, replicate, Result, Ok, Err, IsOk, refl, sym, ap, ap₂, ◌∙◌, append-nil, arith, lit≤}
-use Rattle.scope.specs.declared.Refusal.{Refusal}
-use Rattle.scope.specs.Machine.{answer_number}
-use Rattle.scope.proofs.Refused.{refused}
+use Rattle.std.proofs.Common.{◌≡◌, ℕ, List, [], ◌++◌, length, drop, replicate, Ok, sym, ap, ap₂, ◌∙◌, append-nil, arith, lit≤}
 use Rattle.words.specs.Bytes.{part}
 use Rattle.words.proofs.Parts.{part_long}
 use Rattle.page.specs.Page.{cipher_of}
@@ -26,10 +23,6 @@ sealed key iv k c tag v t kl il sl ec et ev ett =
 -- where it seals, nothing is refused
 pub allowed : (key iv k : List ℕ) → length key ≡ 32 → length iv ≡ 16 → length k ≡ 32 → Page.seal_number key iv [] k (replicate 32 0) ≡ 0
 allowed key iv k kl il sl = seal_accepted key iv [] kl il (lit≤ tt) k (replicate 32 0) (omega arith) (omega arith)
-
-pub accepted : (r : Result (List ℕ) Refusal) → answer_number r ≡ 0 → IsOk r
-accepted (Ok t) e = refl
-accepted (Err r) e = absurd (refused r e)
 
 module _ (key iv b : List ℕ) (kl : length key ≡ 32) (il : length iv ≡ 16) (bl : length b ≡ 512) where
   cl : length (part 32 32 b) ≡ 32

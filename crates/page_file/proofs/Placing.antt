@@ -1,12 +1,9 @@
 -- A page written part after part: the header to the front, the ciphertext by a seal that is lent what stands behind it, the tag in its place.
-use Rattle.std.proofs.Common.{◌≡◌, ℕ, ◌+◌, ◌-◌, ◌≤◌, List, [], ◌++◌, length, take, drop, replicate, Result, Ok, Err, IsOk, refl, sym, ap, ap₂, ◌∙◌, append_assoc, append-nil, length-append, length-drop, arith, take_all, take_at, drop_at, drop-drop, length-take-le, drop_of_length-le}
+use Rattle.std.proofs.Common.{◌≡◌, ℕ, ◌+◌, ◌-◌, ◌≤◌, List, [], ◌++◌, length, take, drop, replicate, sym, ap, ap₂, ◌∙◌, append_assoc, append-nil, length-append, length-drop, arith, take_all, take_at, drop_at, drop-drop, length-take-le, drop_of_length-le}
 use borrow.Rule.Slice.PartMut.{put_mid}
 use Rattle.std.proofs.Math.ListN.{length-replicate}
 use Rattle.std.proofs.Math.Seq.{sets, sets-eq}
 use Rattle.scope.specs.Limits.{most_page_text}
-use Rattle.scope.specs.declared.Refusal.{Refusal}
-use Rattle.scope.specs.Machine.{answer_number}
-use Rattle.scope.proofs.Refused.{refused}
 use Rattle.words.specs.Bytes.{little}
 use Rattle.words.proofs.Bytes.{little_long}
 use Rattle.page.specs.Page.{cipher_of, page_tag}
@@ -59,10 +56,6 @@ page_allowed key t out out1 head whole k l room hl ew e1 =
     let left = take (length out1 - 22) (drop 22 out1) in
     let ll : length left ≡ length out1 - 22 = length-take-le (length out1 - 22) (drop 22 out1) (omega (arith, length-drop 22 out1)) in
     seal_accepted key (take 16 head) head k (length-take-le 16 head (omega arith)) (omega arith) whole left (omega arith) (omega arith)
-
-pub accepted : (r : Result (List ℕ) Refusal) → answer_number r ≡ 0 → IsOk r
-accepted (Ok t) e = refl
-accepted (Err r) e = absurd (refused r e)
 
 -- and the page that they are
 pub page_written : (key stay : List ℕ) (n day : ℕ) (t out out1 part out2 out3 tag head whole : List ℕ) → length key ≡ 32 → length stay ≡ 12 → length t ≤ most_page_text → 512 ≤ length out → length tag ≡ 16

@@ -4,7 +4,7 @@ use Rattle.std.specs.Result.{IsOk}
 use Rattle.std.proofs.Common.{refl, ◌∙◌, subst, arith}
 use Rattle.scope.specs.declared.Refusal.{Refusal}
 use Rattle.scope.specs.declared.Refusal.TheVariants.{KeyLength, IvLength, TooLong, ShortOutput, BadTag, NoOrigin, OutOfPhase, BadBlock, CountTooHigh, TagLength, Malformed, DayRange, BadFile, BadStay, BeforeStart, NumberTaken, NoKey, RangeOrder, SchedulerFull}
-use Rattle.scope.specs.Machine.{refusal_number, Answers}
+use Rattle.scope.specs.Machine.{refusal_number, answer_number, Answers}
 
 pub refused : (e : Refusal) → ¬ (refusal_number e ≡ 0)
 refused KeyLength h = omega arith
@@ -56,3 +56,7 @@ module _ {A : Type 0} (n : ℕ) (P : A → Type 0) where
 
   pub given : {r : Result A Refusal} (a : A) → r ≡ Ok a → Answers r n P → (0 ≡ n) × P a
   given a e h = subst (λ (r : Result A Refusal). Answers r n P) e h
+
+pub is_accepted : {A : Type 0} (r : Result A Refusal) → answer_number r ≡ 0 → IsOk r
+is_accepted (Ok a) z = refl
+is_accepted (Err e) z = absurd (refused e z)

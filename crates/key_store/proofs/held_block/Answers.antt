@@ -1,7 +1,8 @@
 -- `key_store::held_block` meets its contract: the page's call seals the stay's key with no data, and both parts go into the block.
+use Rattle.scope.proofs.Refused.{is_accepted}
 use Rattle.std.proofs.Common.{◌≡◌, length, sym, ap, ◌∙◌, arith, rules, take_all}
 use Rattle.page.specs.Machine.{tag_of}
-use Rattle.key_store.proofs.SealedKeys.{sealed, allowed, accepted}
+use Rattle.key_store.proofs.SealedKeys.{sealed, allowed}
 use Rattle.key_store.proofs.held_block.Goals as goal
 use Rattle.key_store.proofs.held_block.Goals.{After-unwrap-tag}
 
@@ -10,7 +11,7 @@ tag_long c = search rules
 
 pub unwrap-tag-requires : goal.unwrap-tag-requires
 unwrap-tag-requires c =
-    accepted c.seal.result
+    is_accepted c.seal.result
     (c.seal.ensures.answer ∙ allowed c.args.key.now c.args.iv.now c.args.stay_key.now c.requires.0 c.requires.1 c.requires.2)
 
 pub load-requires-2 : goal.load-requires-2

@@ -6,8 +6,9 @@ use native.Mathlib.Omega.{arith}
 use borrow.Author.Rules.{rules}
 use lib.ListN.{length, take, drop}
 use lib.Seq.{sets, take_all, length-take-le}
+use Rattle.scope.proofs.Refused.{is_accepted}
 use Rattle.page.specs.Machine.{tag_of}
-use Rattle.page_file.proofs.Placing.{page_allowed, accepted, page_written}
+use Rattle.page_file.proofs.Placing.{page_allowed, page_written}
 use Rattle.page_file.proofs.seal_page.Goals as goal
 use Rattle.page_file.proofs.seal_page.Goals.{After-header-head, After-unwrap-tag}
 
@@ -48,7 +49,7 @@ pub unwrap-tag-requires : goal.unwrap-tag-requires
 unwrap-tag-requires c =
     let a = c.args in
     let long = head_long (goal.at.unwrap-tag-requires c).After-header-head in
-    accepted c.seal.result
+    is_accepted c.seal.result
     (c.seal.ensures.answer
     ∙ page_allowed a.key.now a.text.now a.out.now _ c.header-head.result c.padded-whole.result c.requires.0 c.requires.2 c.requires.3 long
     c.padded-whole.ensures (front_written c.header-head.result a.out.now long c.copy.ensures))
