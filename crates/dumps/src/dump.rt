@@ -2,6 +2,7 @@
 ghost use Rattle.std.specs.Prelude.{◌≡◌, ◌*◌, length};
 
 use cipher::Registers;
+use scope::Refusal;
 use start::Mode;
 
 pub const KEY: [u8; 32] = *b"\
@@ -26,41 +27,44 @@ fn room() -> [u8; 16 * 65538]
 }
 
 // The registers n blocks behind a start.
-fn reached(mode: Mode, n: usize) -> Registers {
+fn reached(mode: Mode, n: usize) -> Result<Registers, Refusal> {
     let key = KEY;
     let iv = IV;
-    let t = start::start(&key, &iv, mode);
-    let s = t.state;
-    let mut answer: u64 = 0;
+    let s = start::start(&key, &iv, mode)?;
     let mut out = room();
-    let r = cipher::run_core(s, &mut answer, &mut out, n, false);
-    let u = r.state;
-    u.registers
+    let t = cipher::run_core(s, &mut out, n, false)?;
+    Ok(t.registers)
 }
 
+// Their dump; the foreign one where a call is refused, as none is here.
 pub fn at(mode: Mode, n: usize) -> [u8; 112] {
-    let mut d = [0u8; 112];
-    suspended::put_registers(&mut d, 0, reached(mode, n));
+    let mut d = FOREIGN;
+    if let Ok(s) = reached(mode, n) {
+        suspended::put_registers(&mut d, 0, s);
+    }
     d
 }
 
-// The same with a byte behind it.
-pub fn longer(mode: Mode, n: usize) -> [u8; 113] {
-    let mut d = [0u8; 113];
-    suspended::put_registers(&mut d, 0, reached(mode, n));
-    d
+// A dump with a byte behind it.
+pub fn longer(d: [u8; 112]) -> [u8; 113] {
+    let mut e = [0; 113];
+    e[..112].copy_from_slice(&d);
+    e
 }
 
-// The suspended block of a session with 20 bytes of text, which has drawn 4 blocks. Its bytes 16 to 127 are a dump.
-pub fn suspended_block() -> [u8; 512] {
+// The suspended block of a session with 20 bytes of text, which has drawn 4 blocks.
+fn suspended_session() -> Result<[u8; 512], Refusal> {
     let key = KEY;
     let iv = IV;
-    let b = session::begin(&key, &iv);
-    let s = b.session;
-    let mut out = [0u8; 20];
-    let d = session::text(s, b"one guest, one night", &mut out);
-    let t = d.session;
-    let mut block = [0u8; 512];
-    suspend::suspend(t, &mut block);
-    block
+    let mut s = session::begin(&key, &iv)?;
+    let mut out = [0; 20];
+    session::text(&mut s, b"one guest, one night", &mut out)?;
+    let mut block = [0; 512];
+    suspend::suspend(&s, &mut block)?;
+    Ok(block)
+}
+
+// The same, zeros where a call is refused, as none is here. Its bytes 16 to 127 are a dump.
+pub fn suspended_block() -> [u8; 512] {
+    suspended_session().unwrap_or([0; 512])
 }

@@ -1,67 +1,35 @@
-// What the program writes: text, numbers, and what a search answers.
-use search::{Located, Refusal, Searched};
+// How the answer to a search is written.
+use search::{Located, NotFound};
 use start::Mode;
-use std::io;
+use std::fmt;
 
-pub fn text(rt: &impl Print, t: &[u8]) -> io::Result<()> {
-    rt.write_all(t)
-}
-
-// A number, behind what is said of it.
-pub fn number(rt: &impl Print, label: &[u8], n: u64) -> io::Result<()> {
-    text(rt, label)?;
-    rt.print(n)
-}
-
-// The low byte of a word.
-fn byte(rt: &impl Print, w: u32) -> io::Result<()> {
-    print!(rt; "{:02x}", w % 0x100)
-}
-
-fn word(rt: &impl Print, w: u32) -> io::Result<()> {
-    byte(rt, w)?;
-    byte(rt, w / 0x100)?;
-    byte(rt, w / 0x10000)?;
-    byte(rt, w / 0x1000000)
-}
-
-// Half of an IV.
-fn half(rt: &impl Print, x: u64) -> io::Result<()> {
-    word(rt, (x % 0x100000000) as u32)?;
-    word(rt, (x / 0x100000000) as u32)
-}
-
-fn mode(rt: &impl Print, m: Mode) -> io::Result<()> {
+fn mode(m: Mode) -> &'static str {
     match m {
-        Mode::Plain => text(rt, b"plain mode"),
-        Mode::Sealed => text(rt, b"sealed mode"),
+        Mode::Plain => "plain mode",
+        Mode::Sealed => "sealed mode",
     }
 }
 
-fn walked(rt: &impl Print, steps: u64) -> io::Result<()> {
-    number(rt, b", ", steps)?;
-    text(rt, b" steps")
-}
+// What a search answers.
+#[derive(Clone, Copy)]
+pub struct Answer(pub Result<Located, NotFound>);
 
-fn found(rt: &impl Print, l: Located) -> io::Result<()> {
-    number(rt, b"count ", l.count)?;
-    text(rt, b", IV ")?;
-    half(rt, l.lo)?;
-    half(rt, l.hi)?;
-    text(rt, b", ")?;
-    let m = l.mode;
-    mode(rt, m)?;
-    walked(rt, l.steps)
-}
-
-fn refused(rt: &impl Print, r: Refusal) -> io::Result<()> {
-    number(rt, b"refused ", r.number)?;
-    walked(rt, r.steps)
-}
-
-pub fn searched(rt: &impl Print, s: Searched) -> io::Result<()> {
-    match s {
-        Searched::Found(l) => found(rt, l),
-        Searched::Refused(r) => refused(rt, r),
+impl fmt::Display for Answer {
+    fn fmt<W: fmt::Write>(&self, f: &mut fmt::Formatter<W>) -> fmt::Result {
+        match self.0 {
+            Ok(l) => {
+                // The IV's bytes in order: each half has its low byte first.
+                let lo = l.lo.swap_bytes();
+                let hi = l.hi.swap_bytes();
+                write!(
+                    f,
+                    "count {}, IV {lo:016x}{hi:016x}, {}, {} steps",
+                    l.count,
+                    mode(l.mode),
+                    l.steps
+                )
+            }
+            Err(r) => write!(f, "{}, {} steps", r.refusal, r.steps),
+        }
     }
 }

@@ -1,172 +1,156 @@
 // Blocks that resume refuses: with one layout rule broken and all others kept, and with a state that no stay of the key leads to.
 ghost use Rattle.std.specs.Prelude.{◌≡◌, ◌+◌, ◌≤◌, length};
 
-use crate::{pieces, report};
+use crate::report;
 use cipher::Registers;
+use scope::Refusal;
 use session::Session;
 use start::Mode;
 use std::io;
 
 // A session with 20 bytes of data, and one with 5 bytes of text behind them.
-fn with_data(key: &[u8], iv: &[u8]) -> Session {
-    let g = pieces::data(pieces::begun(key, iv), b"arrival 2026-07-03, ");
-    g.session
+fn with_data(key: &[u8], iv: &[u8]) -> Result<Session, Refusal> {
+    let mut s = session::begin(key, iv)?;
+    session::data(&mut s, b"arrival 2026-07-03, ")?;
+    Ok(s)
 }
 
-fn with_text(key: &[u8], iv: &[u8]) -> Session {
-    let s = with_data(key, iv);
-    let mut out: [u8; 5] = [0; 5];
-    let d = session::text(s, b"adult", &mut out);
-    d.session
+fn with_text(key: &[u8], iv: &[u8]) -> Result<Session, Refusal> {
+    let mut s = with_data(key, iv)?;
+    let mut out = [0; 5];
+    session::text(&mut s, b"adult", &mut out)?;
+    Ok(s)
 }
 
-fn block_of(s: Session) -> [u8; 512] {
-    let mut block: [u8; 512] = [0; 512];
-    suspend::suspend(s, &mut block);
-    block
-}
-
-fn line(rt: &impl Print, name: &[u8], answer: u64) -> io::Result<()> {
-    report::text(rt, name)?;
-    report::text(rt, b": ")?;
-    report::answer(rt, answer)?;
-    report::text(rt, b"\n")
+fn block_of(s: &Session) -> Result<[u8; 512], Refusal> {
+    let mut block = [0; 512];
+    suspend::suspend(s, &mut block)?;
+    Ok(block)
 }
 
 // Resume's answer for bytes with this check.
-fn checked(key: &[u8], block: &mut [u8]) -> u64
+fn checked(key: &[u8], block: &mut [u8]) -> Result<Session, Refusal>
     requires { length block.old ≡ 512 }
 {
     fields::put_check(block);
-    let r = suspend::resume(key, block);
-    r.answer
+    suspend::resume(key, block)
 }
 
 // Resume's answer for a session's block with the number n of k bytes at a place, and its check.
-fn with_number(key: &[u8], s: Session, at: usize, k: usize, n: u64) -> u64
+fn with_number(
+    key: &[u8],
+    s: Result<Session, Refusal>,
+    at: usize,
+    k: usize,
+    n: u64,
+) -> Result<Session, Refusal>
     requires { at + k ≤ 512 }
 {
-    let mut block = block_of(s);
+    let mut block = block_of(&s?)?;
     fields::put(&mut block, at, k, n);
     checked(key, &mut block)
 }
 
+fn line(rt: &impl Print, name: &str, answer: Result<Session, Refusal>) -> io::Result<()> {
+    report::verdict(rt, name, answer)?;
+    Ok(())
+}
+
 fn broken(
     rt: &impl Print,
-    name: &[u8],
+    name: &str,
     key: &[u8],
-    iv: &[u8],
+    s: Result<Session, Refusal>,
     at: usize,
     k: usize,
     n: u64,
 ) -> io::Result<()>
     requires { at + k ≤ 512 }
 {
-    let s = with_text(key, iv);
     line(rt, name, with_number(key, s, at, k, n))
 }
 
-fn broken_in_data(
-    rt: &impl Print,
-    name: &[u8],
-    key: &[u8],
-    iv: &[u8],
-    at: usize,
-    k: usize,
-    n: u64,
-) -> io::Result<()>
-    requires { at + k ≤ 512 }
+// Resume's answer for a session's block cut to n bytes, or with a zero behind it.
+fn of_length(key: &[u8], s: Result<Session, Refusal>, n: usize) -> Result<Session, Refusal>
+    requires { n ≤ 513 }
 {
-    let s = with_data(key, iv);
-    line(rt, name, with_number(key, s, at, k, n))
+    let mut long = [0; 513];
+    suspend::suspend(&s?, &mut long)?;
+    suspend::resume(key, &long[..n])
 }
 
-fn lengths(rt: &impl Print, key: &[u8], iv: &[u8]) -> io::Result<()> {
-    let s = with_text(key, iv);
-    let mut long: [u8; 513] = [0; 513];
-    suspend::suspend(s, &mut long);
-    let r = suspend::resume(key, &long);
-    line(rt, b"block of 513 bytes", r.answer)?;
-    let t = suspend::resume(key, &long[0..511]);
-    line(rt, b"block of 511 bytes", t.answer)
-}
-
-fn wrong_check(rt: &impl Print, key: &[u8], iv: &[u8]) -> io::Result<()> {
-    let s = with_text(key, iv);
-    let mut block = block_of(s);
-    block[508] = block[508] ^ 1;
-    let r = suspend::resume(key, &block);
-    line(rt, b"check changed", r.answer)
+fn check_changed(key: &[u8], s: Result<Session, Refusal>) -> Result<Session, Refusal> {
+    let mut block = block_of(&s?)?;
+    block[508] ^= 1;
+    suspend::resume(key, &block)
 }
 
 pub fn rules(rt: &impl Print, key: &[u8], iv: &[u8]) -> io::Result<()> {
-    broken_in_data(rt, b"block of a session in its data", key, iv, 0, 1, 0)?;
-    broken(rt, b"block of a session in its text", key, iv, 0, 1, 1)?;
-    lengths(rt, key, iv)?;
-    broken(rt, b"phase 2", key, iv, 0, 1, 2)?;
-    broken(rt, b"data length 65536", key, iv, 4, 4, 65536)?;
-    broken(rt, b"text length 1048581", key, iv, 8, 4, 1048581)?;
-    broken_in_data(rt, b"text length 1 in phase 0", key, iv, 8, 4, 1)?;
-    broken_in_data(
+    let data = with_data(key, iv);
+    let text = with_text(key, iv);
+    broken(rt, "block of a session in its data", key, data, 0, 1, 0)?;
+    broken(rt, "block of a session in its text", key, text, 0, 1, 1)?;
+    line(rt, "block of 513 bytes", of_length(key, text, 513))?;
+    line(rt, "block of 511 bytes", of_length(key, text, 511))?;
+    broken(rt, "phase 2", key, text, 0, 1, 2)?;
+    broken(rt, "data length 65536", key, text, 4, 4, 65536)?;
+    broken(rt, "text length 1048581", key, text, 8, 4, 1048581)?;
+    broken(rt, "text length 1 in phase 0", key, data, 8, 4, 1)?;
+    broken(
         rt,
-        b"byte 148 not zero at 20 bytes of data",
+        "byte 148 not zero at 20 bytes of data",
         key,
-        iv,
+        data,
         148,
         1,
         1,
     )?;
     broken(
         rt,
-        b"byte 149 not zero at 5 bytes of text",
+        "byte 149 not zero at 5 bytes of text",
         key,
-        iv,
+        text,
         149,
         1,
         1,
     )?;
-    broken(rt, b"byte 1 not zero", key, iv, 1, 1, 1)?;
-    broken(rt, b"byte 12 not zero", key, iv, 12, 1, 1)?;
-    broken(rt, b"byte 160 not zero", key, iv, 160, 1, 1)?;
-    broken(rt, b"byte 507 not zero", key, iv, 507, 1, 1)?;
-    wrong_check(rt, key, iv)
+    broken(rt, "byte 1 not zero", key, text, 1, 1, 1)?;
+    broken(rt, "byte 12 not zero", key, text, 12, 1, 1)?;
+    broken(rt, "byte 160 not zero", key, text, 160, 1, 1)?;
+    broken(rt, "byte 507 not zero", key, text, 507, 1, 1)?;
+    line(rt, "check changed", check_changed(key, text))
 }
 
 // The registers in plain mode at the count of a session in its data, 2 blocks.
-fn plain(key: &[u8], iv: &[u8]) -> Registers {
-    let t = start::start(key, iv, Mode::Plain);
-    let s = t.state;
-    let mut answer: u64 = 0;
-    let mut out: [u8; 32] = [0; 32];
-    let r = cipher::run_core(s, &mut answer, &mut out, 2, false);
-    let u = r.state;
-    u.registers
+fn plain(key: &[u8], iv: &[u8]) -> Result<Registers, Refusal> {
+    let s = start::start(key, iv, Mode::Plain)?;
+    let mut out = [0; 32];
+    let t = cipher::run_core(s, &mut out, 2, false)?;
+    Ok(t.registers)
 }
 
-fn plain_state(rt: &impl Print, key: &[u8], iv: &[u8]) -> io::Result<()> {
-    let s = with_data(key, iv);
-    let mut block = block_of(s);
-    suspended::put_registers(&mut block, 16, plain(key, iv));
-    line(rt, b"state of plain mode", checked(key, &mut block))
+fn plain_state(key: &[u8], iv: &[u8]) -> Result<Session, Refusal> {
+    let mut block = block_of(&with_data(key, iv)?)?;
+    suspended::put_registers(&mut block, 16, plain(key, iv)?);
+    checked(key, &mut block)
 }
 
-fn foreign_key(rt: &impl Print, key: &[u8], iv: &[u8]) -> io::Result<()> {
-    let s = with_data(key, iv);
-    let block = block_of(s);
-    let mut other: [u8; 32] = [0; 32];
+fn foreign_key(key: &[u8], iv: &[u8]) -> Result<Session, Refusal> {
+    let block = block_of(&with_data(key, iv)?)?;
+    let mut other = [0; 32];
     other[0] = 1;
-    let r = suspend::resume(&other, &block);
-    line(rt, b"another key", r.answer)
+    suspend::resume(&other, &block)
 }
 
 pub fn states(rt: &impl Print, key: &[u8], iv: &[u8]) -> io::Result<()> {
-    plain_state(rt, key, iv)?;
-    foreign_key(rt, key, iv)?;
+    line(rt, "state of plain mode", plain_state(key, iv))?;
+    line(rt, "another key", foreign_key(key, iv))?;
+    let text = with_text(key, iv);
     broken(
         rt,
-        b"state drawn at random",
+        "state drawn at random",
         key,
-        iv,
+        text,
         16,
         8,
         0x8f1bbcdc5a827999,

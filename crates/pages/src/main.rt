@@ -47,12 +47,10 @@ fn with_text(rt: &impl Print) -> io::Result<()> {
 fn suspended(rt: &impl Print) -> io::Result<()> {
     let key = sealed::KEY_2;
     let iv = sealed::IV_2;
-    report::text(
-        rt,
-        b"pages of 0 to 50 bytes of data and of text, suspended and resumed at each cut: ",
+    let agreed = report::agreement(cuts::cuts(&key, &iv));
+    println!(rt;
+        "pages of 0 to 50 bytes of data and of text, suspended and resumed at each cut: {agreed}"
     )?;
-    report::agreement(rt, cuts::cuts(&key, &iv))?;
-    report::text(rt, b"\n")?;
     blocks::rules(rt, &key, &iv)?;
     blocks::states(rt, &key, &iv)
 }

@@ -1,29 +1,20 @@
-// What the program writes: text and numbers.
+// How answers and comparisons are written.
+use scope::Refusal;
 use std::io;
-use std::io::Write;
 
-pub fn text(rt: &impl Print, t: &[u8]) -> io::Result<()> {
-    io::writer(rt).write_all(t)
-}
-
-pub fn number(rt: &impl Print, n: u64) -> io::Result<()> {
-    rt.print(n)
-}
-
-pub fn agreement(rt: &impl Print, agrees: bool) -> io::Result<()> {
-    if agrees {
-        text(rt, b"agrees")
-    } else {
-        text(rt, b"differs")
+// A call's line; and what the call gives, where it is accepted.
+pub fn verdict<T: Copy>(
+    rt: &impl Print,
+    name: &str,
+    answer: Result<T, Refusal>,
+) -> io::Result<Option<T>> {
+    match answer {
+        Ok(_) => println!(rt; "{name}: accepted")?,
+        Err(e) => println!(rt; "{name}: {e}")?,
     }
+    Ok(answer.ok())
 }
 
-// The number that a call answers with.
-pub fn answer(rt: &impl Print, n: u64) -> io::Result<()> {
-    if n == 0 {
-        text(rt, b"accepted")
-    } else {
-        text(rt, b"refused ")?;
-        number(rt, n)
-    }
+pub fn agreement(agrees: bool) -> &'static str {
+    if agrees { "agrees" } else { "differs" }
 }

@@ -9,3 +9,4 @@ pub mod Numbers
 pub mod Counts
 pub mod Beginning
 pub mod Typed
+mod Masked

@@ -46,10 +46,10 @@ returns-in_err-steps_allowed c =
     let p = err_from_is_err_and c.from_residual.result c.from_residual.ensures.1 in
     let e = c.in_err-steps_allowed.field-0.0 in
     let q = c.in_err-steps_allowed.ensures
-        ∙ ap (λ (k : ℕ). steps_number forward k s.state.count) (drawn (goal.at.returns-in_err-steps_allowed c).After-steps_allowed) in
+    ∙ ap (λ (k : ℕ). steps_number forward k s.state.count) (drawn (goal.at.returns-in_err-steps_allowed c).After-steps_allowed) in
     let f = far_forward (drawn_by s.text (length a.piece.now)) s.state.count (λ z. refused e (q ∙ z)) in
     let r = text_refused a.s.now a.piece.now a.out.now e
-        (text_far s a.piece.now a.out.now c.if-s-ge2.false (within (goal.at.returns-in_err-steps_allowed c).Else-s-n) f.0 ∙ sym (q ∙ f.1)) in
+    (text_far s a.piece.now a.out.now c.if-s-ge2.false (within (goal.at.returns-in_err-steps_allowed c).Else-s-n) f.0 ∙ sym (q ∙ f.1)) in
     record { says = rw (p.1, p.2) r.0; out = r.1 }
 
 -- the count lets them

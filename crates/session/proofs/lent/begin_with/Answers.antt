@@ -23,6 +23,6 @@ returns c =
     let e = sym c.in_ok-s.ensures.0 in (
       sym e,
       c.opened.ensures
-      ∙ ap₂ (λ (u : State) (v : List ℕ). begun_from (record { registers = u.registers; count = 0 }) v) c.in_ok-s.ensures.1 c.carried.ensures
-      ∙ sym (granted_session a.key.now a.iv.now e),
+          ∙ ap₂ (λ (u : State) (v : List ℕ). begun_from (record { registers = u.registers; count = 0 }) v) c.in_ok-s.ensures.1 c.carried.ensures
+          ∙ sym (granted_session a.key.now a.iv.now e),
     )
