@@ -3,7 +3,8 @@
 ghost use Rattle.std.specs.Prelude.{◌≡◌, ◌+◌, ◌*◌, ◌≤◌, length};
 
 use crate::keystream::{FIRST_SEALED, IV_3, KEY_3, KEYSTREAM_3, LAST_PLAIN, LAST_SEALED};
-use crate::{call, report, vector};
+use crate::report::{self, Hex};
+use crate::{call, vector};
 use cipher::State;
 use start::Mode;
 use std::io;
@@ -21,14 +22,11 @@ fn last(rt: &impl Print, out: &[u8], expected: Block) -> io::Result<()>
     requires { 16 * 65538 ≤ length out.now }
 {
     let z = words::load(out, 16 * 65537);
-    report::text(rt, b"last block made: ")?;
-    report::block(rt, z)?;
-    if words::same(z, expected) {
-        report::text(rt, b", agrees\n")
+    print!(rt; "last block made: {}, ", Hex(z))?;
+    if z == expected {
+        println!(rt; "agrees")
     } else {
-        report::text(rt, b", expected ")?;
-        report::block(rt, expected)?;
-        report::text(rt, b"\n")
+        println!(rt; "expected {}", Hex(expected))
     }
 }
 
@@ -56,16 +54,15 @@ fn single_steps(rt: &impl Print, s: State, out: &[u8], back: bool) -> io::Result
     let mut agreed: u64 = 0;
     for i in 0..65538 {
         let z = vector::block(vector::step(&mut t, back));
-        if words::same(z, words::load(out, 16 * i)) {
+        if z == words::load(out, 16 * i) {
             agreed += 1;
         }
     }
-    report::text(rt, b"single steps")?;
-    call::way(rt, s, back)?;
-    report::text(rt, b": ")?;
-    vector::tally(rt, agreed, 65538)?;
-    report::text(rt, b" blocks as in the output")?;
-    call::to_count(rt, t)?;
+    let way = call::way(back);
+    println!(rt;
+        "single steps {way} at count {}: {agreed} of 65538 blocks as in the output, count {}",
+        s.count, t.count
+    )?;
     Ok(t)
 }
 
@@ -109,11 +106,11 @@ fn farthest(
     Ok(t)
 }
 
-fn compared(rt: &impl Print, s: State, t: State, u: State) -> io::Result<()> {
+fn compared(rt: &impl Print, names: &str, s: State, t: State, u: State) -> io::Result<()> {
     if s == t && s == u {
-        report::text(rt, b": the same registers and count\n")
+        println!(rt; "{names}: the same registers and count")
     } else {
-        report::text(rt, b": different\n")
+        println!(rt; "{names}: different")
     }
 }
 
@@ -124,8 +121,7 @@ fn forward(rt: &impl Print, s: State, out: &mut [u8], expected: Block) -> io::Re
     let t = two_runs(rt, s, out)?;
     let u = single_steps(rt, s, out, false)?;
     let e = farthest(rt, s, out, false, expected)?;
-    report::text(rt, b"one run, two runs and single steps")?;
-    compared(rt, e, t, u)?;
+    compared(rt, "one run, two runs and single steps", e, t, u)?;
     Ok(e)
 }
 
@@ -135,8 +131,7 @@ fn back(rt: &impl Print, s: State, e: State, out: &mut [u8], expected: Block) ->
 {
     let t = farthest(rt, e, out, true, expected)?;
     let u = single_steps(rt, e, out, true)?;
-    report::text(rt, b"start, one run back and single steps back")?;
-    compared(rt, s, t, u)
+    compared(rt, "start, one run back and single steps back", s, t, u)
 }
 
 // Under key and IV 3: a run back that is too long and goes past the start, though it has room; then forward to the last block, and from there back to
@@ -147,9 +142,7 @@ fn both_ways(
     first_block: Block,
     last_block: Block,
 ) -> io::Result<State> {
-    report::text(rt, b"SNOW-V 3 in ")?;
-    report::mode(rt, mode)?;
-    report::text(rt, b"\n")?;
+    println!(rt; "SNOW-V 3 in {}", report::mode(mode))?;
     let s = started(mode);
     let mut out = room();
     call::run(rt, s, &mut out, 65539, true)?;
@@ -162,8 +155,7 @@ fn both_ways(
 fn started(mode: Mode) -> State {
     let key = KEY_3;
     let iv = IV_3;
-    let t = start::start(&key, &iv, mode);
-    t.state
+    vector::started(&key, &iv, mode)
 }
 
 // A run of n with room for one block, both ways.

@@ -1,85 +1,58 @@
-// What the program writes: text, numbers, and blocks in hex, byte 0 first.
+// How blocks and answers are written.
 use scope::Refusal;
-use start::{Mode, Origin, Traced};
-use std::io;
-use std::io::Write;
+use start::{Mode, Origin};
+use std::fmt;
 use words::Block;
 
-pub fn text(rt: &impl Print, t: &[u8]) -> io::Result<()> {
-    io::writer(rt).write_all(t)
-}
+// A block in hex, byte 0 first, which is the low byte of its first word.
+#[derive(Clone, Copy)]
+pub struct Hex(pub Block);
 
-pub fn number(rt: &impl Print, n: u64) -> io::Result<()> {
-    rt.print(n)
-}
-
-pub fn labelled(rt: &impl Print, t: &[u8], n: u64) -> io::Result<()> {
-    text(rt, t)?;
-    number(rt, n)
-}
-
-// The low byte of a word.
-fn byte(rt: &impl Print, w: u32) -> io::Result<()> {
-    let b = w % 0x100;
-    print!(rt; "{b:02x}")
-}
-
-fn word(rt: &impl Print, w: u32) -> io::Result<()> {
-    byte(rt, w)?;
-    byte(rt, w / 0x100)?;
-    byte(rt, w / 0x10000)?;
-    byte(rt, w / 0x1000000)
-}
-
-pub fn block(rt: &impl Print, x: Block) -> io::Result<()> {
-    word(rt, x.w0)?;
-    word(rt, x.w1)?;
-    word(rt, x.w2)?;
-    word(rt, x.w3)
-}
-
-// Half of an IV, as a trace gives it.
-fn half(rt: &impl Print, x: u64) -> io::Result<()> {
-    word(rt, (x % 0x100000000) as u32)?;
-    word(rt, (x / 0x100000000) as u32)
-}
-
-pub fn mode(rt: &impl Print, m: Mode) -> io::Result<()> {
-    match m {
-        Mode::Plain => text(rt, b"plain mode"),
-        Mode::Sealed => text(rt, b"sealed mode"),
+impl fmt::Display for Hex {
+    fn fmt<W: fmt::Write>(&self, f: &mut fmt::Formatter<W>) -> fmt::Result {
+        let z = self.0;
+        let w0 = z.w0.swap_bytes();
+        let w1 = z.w1.swap_bytes();
+        let w2 = z.w2.swap_bytes();
+        let w3 = z.w3.swap_bytes();
+        write!(f, "{w0:08x}{w1:08x}{w2:08x}{w3:08x}")
     }
-}
-
-pub fn refused(rt: &impl Print, n: u64) -> io::Result<()> {
-    labelled(rt, b"refused ", n)
 }
 
 // What a run answers.
-pub fn answer(rt: &impl Print, a: Result<(), Refusal>) -> io::Result<()> {
-    match a {
-        Ok(()) => text(rt, b"accepted"),
-        Err(e) => refused(rt, e.number()),
+#[derive(Clone, Copy)]
+pub struct Answer(pub Result<(), Refusal>);
+
+impl fmt::Display for Answer {
+    fn fmt<W: fmt::Write>(&self, f: &mut fmt::Formatter<W>) -> fmt::Result {
+        match self.0 {
+            Ok(()) => write!(f, "accepted"),
+            Err(e) => write!(f, "{e}"),
+        }
     }
 }
 
-fn origin(rt: &impl Print, o: Origin) -> io::Result<()> {
-    text(rt, b"IV ")?;
-    half(rt, o.lo)?;
-    half(rt, o.hi)?;
-    text(rt, b", ")?;
-    mode(rt, o.mode)
-}
-
-// Where a state comes from, or why it was refused.
-fn found(rt: &impl Print, t: Traced) -> io::Result<()> {
-    match t {
-        Traced::Found(o) => origin(rt, o),
-        Traced::Refused(n) => refused(rt, n),
+pub fn mode(m: Mode) -> &'static str {
+    match m {
+        Mode::Plain => "plain mode",
+        Mode::Sealed => "sealed mode",
     }
 }
 
-pub fn traced(rt: &impl Print, t: Traced) -> io::Result<()> {
-    found(rt, t)?;
-    text(rt, b"\n")
+// Where a state comes from, or why a trace refuses it.
+#[derive(Clone, Copy)]
+pub struct Traced(pub Result<Origin, Refusal>);
+
+impl fmt::Display for Traced {
+    fn fmt<W: fmt::Write>(&self, f: &mut fmt::Formatter<W>) -> fmt::Result {
+        match self.0 {
+            Ok(o) => {
+                // The IV's bytes in order: each half has its low byte first.
+                let lo = o.lo.swap_bytes();
+                let hi = o.hi.swap_bytes();
+                write!(f, "IV {lo:016x}{hi:016x}, {}", mode(o.mode))
+            }
+            Err(e) => write!(f, "{e}"),
+        }
+    }
 }

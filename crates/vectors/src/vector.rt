@@ -1,7 +1,8 @@
 // A vector of the paper: the blocks of the start and of the keystream, forward and back, held to those that it prints.
 ghost use Rattle.std.specs.Prelude.{◌≡◌, ◌*◌, ◌≤◌, ◌<◌, length};
 
-use crate::{lent, report};
+use crate::lent;
+use crate::report::Hex;
 use cipher::{Registers, State};
 use scope::Refusal;
 use start::Mode;
@@ -15,11 +16,11 @@ enum Part {
     Back,
 }
 
-fn name(rt: &impl Print, p: Part) -> io::Result<()> {
+fn name(p: Part) -> &'static str {
     match p {
-        Part::Initialisation => report::text(rt, b" initialisation"),
-        Part::Keystream => report::text(rt, b" keystream"),
-        Part::Back => report::text(rt, b" keystream back"),
+        Part::Initialisation => "initialisation",
+        Part::Keystream => "keystream",
+        Part::Back => "keystream back",
     }
 }
 
@@ -31,14 +32,10 @@ fn difference(
     got: Block,
     expected: Block,
 ) -> io::Result<()> {
-    report::labelled(rt, b"SNOW-V ", v)?;
-    name(rt, p)?;
-    report::labelled(rt, b", block ", i as u64)?;
-    report::text(rt, b": got ")?;
-    report::block(rt, got)?;
-    report::text(rt, b", expected ")?;
-    report::block(rt, expected)?;
-    report::text(rt, b"\n")
+    let name = name(p);
+    let got = Hex(got);
+    let expected = Hex(expected);
+    println!(rt; "SNOW-V {v} {name}, block {i}: got {got}, expected {expected}")
 }
 
 // Which block of n stands at place i: on the way back they come in the opposite order.
@@ -67,7 +64,7 @@ fn agreeing(
     for i in 0..n {
         let x = words::load(got, 16 * i);
         let y = words::load(expected, 16 * place(p, i, n));
-        if words::same(x, y) {
+        if x == y {
             agreed += 1;
         } else {
             difference(rt, v, p, i + 1, x, y)?;
@@ -107,14 +104,8 @@ fn initialisation(key: [u8; 32], iv: [u8; 16]) -> [u8; 256] {
     out
 }
 
-pub fn tally(rt: &impl Print, agreed: u64, of: u64) -> io::Result<()> {
-    report::number(rt, agreed)?;
-    report::labelled(rt, b" of ", of)
-}
-
-fn started(key: [u8; 32], iv: [u8; 16]) -> State {
-    let t = start::start(&key, &iv, Mode::Plain);
-    t.state
+pub fn started(key: &[u8; 32], iv: &[u8; 16], mode: Mode) -> State {
+    start::start(key, iv, mode).unwrap()
 }
 
 // Eight blocks by a run that fills the output.
@@ -190,7 +181,7 @@ fn keystream(
     requires { 128 ≤ length expected.now }
 {
     let mut out = [0u8; 128];
-    let e = eight(started(key, iv), &mut out, false, stepwise);
+    let e = eight(started(&key, &iv, Mode::Plain), &mut out, false, stepwise);
     let forward = agreeing(rt, v, Part::Keystream, &out, expected, 8)?;
     eight(e, &mut out, true, stepwise);
     let back = agreeing(rt, v, Part::Back, &out, expected, 8)?;
@@ -210,22 +201,16 @@ pub fn vector(
     let agreed = agreeing(rt, v, Part::Initialisation, &got, &initial, 16)?;
     let r = keystream(rt, v, key, iv, &blocks, false)?;
     let w = keystream(rt, v, key, iv, &blocks, true)?;
-    report::labelled(rt, b"SNOW-V ", v)?;
-    report::text(rt, b": ")?;
-    tally(rt, agreed, 16)?;
-    report::text(rt, b" initialisation blocks agree, ")?;
-    tally(rt, r.forward, 8)?;
-    report::labelled(rt, b" keystream blocks agree\nSNOW-V ", v)?;
-    report::text(rt, b" back: ")?;
-    tally(rt, r.back, 8)?;
-    report::labelled(
-        rt,
-        b" keystream blocks agree, in the opposite order\nSNOW-V ",
-        v,
+    println!(rt;
+        "SNOW-V {v}: {agreed} of 16 initialisation blocks agree, {} of 8 keystream blocks agree",
+        r.forward
     )?;
-    report::text(rt, b" step by step: ")?;
-    tally(rt, w.forward, 8)?;
-    report::text(rt, b" keystream blocks agree, back ")?;
-    tally(rt, w.back, 8)?;
-    report::text(rt, b"\n")
+    println!(rt;
+        "SNOW-V {v} back: {} of 8 keystream blocks agree, in the opposite order",
+        r.back
+    )?;
+    println!(rt;
+        "SNOW-V {v} step by step: {} of 8 keystream blocks agree, back {} of 8",
+        w.forward, w.back
+    )
 }
