@@ -46,7 +46,7 @@ pub fn put_block(out: &mut [u8], at: usize, b: [u8; 16])
 
 // ---- states in bytes
 
-// A state's 120 bytes, at a place: the registers, then the count.
+// A state's 120 bytes as C keeps them, at a place: the registers, then the count.
 fn put_state(out: &mut [u8], at: usize, s: State)
     requires { at + 120 ≤ length out.old }
     ensures { out.new ≡ sets out.old at (state_bytes (state_of s)) }

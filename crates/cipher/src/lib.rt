@@ -93,7 +93,8 @@ fn interleaved(p: u32, q: u32) -> u32
     (p & 0x00ff00ff) + (q & 0x00ff00ff) * 0x100
 }
 
-// The paper's sigma: the four by four matrix of bytes is transposed, first its quarters and then the bytes of each.
+// The paper's sigma: the four by four matrix of bytes is transposed, first its quarters and then the bytes of each. It is the paper's permutation, and no library
+// method's.
 fn sigma(x: Block) -> Block
     ensures { bytes_of result ≡ Step.sigma (bytes_of x) }
 {
@@ -230,7 +231,7 @@ pub fn back_by_value(s: State) -> Result<Stepped, Refusal>
     Ok(Stepped { state, z: w.z })
 }
 
-// The state is lent, moved on one step, and z comes back; or the refusal, and then the state stays.
+// The state is lent, moved on one step, and z comes back; or the refusal, and then the state stays. Document 01 names this form: thin, over the step by value.
 pub fn step(s: &mut State) -> Result<Block, Refusal>
     ensures { (state_of s.new ≡ step_state forward (state_of s.old)) × (drawn_of result ≡ step_answer forward (state_of s.old)) }
 {
@@ -288,43 +289,37 @@ pub fn run_core(s: State, out: &mut [u8], n: usize, back: bool) -> Result<State,
     })
 }
 
-// The same with the state lent, which a refusal leaves: how many bytes were written comes back.
-fn run_lent(
-    s: &mut State,
-    answer: &mut Result<(), Refusal>,
-    out: &mut [u8],
-    n: usize,
-    back: bool,
-) -> usize
+// The same with the state lent, which a refusal leaves, and an answer number: how many bytes were written comes back.
+fn run_lent(s: &mut State, answer: &mut u64, out: &mut [u8], n: usize, back: bool) -> usize
     ensures state { state_of s.new ≡ run_state back (state_of s.old) (length out.old) n }
     ensures wrote { result ≡ length (run_part back (state_of s.old) (length out.old) n) }
-    ensures answer { answer_number answer.new ≡ run_number back s.old.count (length out.old) n }
+    ensures answer { answer.new ≡ run_number back s.old.count (length out.old) n }
     ensures out { out.new ≡ run_part back (state_of s.old) (length out.old) n ++ drop (length (run_part back (state_of s.old) (length out.old) n)) out.old }
 {
     match run_core(*s, out, n, back) {
         Ok(t) => {
             *s = t;
-            *answer = Ok(());
+            *answer = 0;
             16 * n
         }
         Err(e) => {
-            *answer = Err(e);
+            *answer = e.number();
             0
         }
     }
 }
 
 // The same where the part of the output that holds the blocks comes back, empty on a refusal: the output ends as that part ends, and behind it the rest
-// as it was. The answer is lent beside it: a `Result` with the part in it has no generated proof of what the lent slice ends as, neither here nor at a caller.
+// as it was. Document 01 names this form, with the answer's number lent; a `Result` with the part in it has no generated proof of what the lent slice ends as.
 pub fn run<'a>(
     s: &mut State,
-    answer: &mut Result<(), Refusal>,
+    answer: &mut u64,
     out: &'a mut [u8],
     n: usize,
     back: bool,
 ) -> &'a mut [u8]
     ensures state { state_of s.new ≡ run_state back (state_of s.old) (length out.old) n }
-    ensures answer { answer_number answer.new ≡ run_number back s.old.count (length out.old) n }
+    ensures answer { answer.new ≡ run_number back s.old.count (length out.old) n }
     ensures part { (result.ref_ptr ≡ out.entry.ref_ptr) × (result.now ≡ run_part back (state_of s.old) (length out.old) n) }
     ensures* rest { sem 𝓛 (front_of out.entry result (drop (length result.now) out.old)) }
 {

@@ -87,7 +87,7 @@ fn decode(line: &[u8], out: &mut [u8]) -> usize
     n
 }
 
-// The digit that says a number.
+// The digit that says a number. `char::from_digit` gives an `Option` of a character, which is no plainer.
 fn glyph(v: u8) -> u8
     requires { v < 16 }
     ensures { result ≡ Hex.glyph v }
@@ -154,11 +154,10 @@ fn seal_lines(input: &[u8], p: Places, cipher: &mut [u8; MOST_BYTES]) -> Result<
     Ok(Sealed { count: t, tag })
 }
 
-// Prints a refusal, whose number has at most two digits, at the front of the output, and how many bytes that is.
-pub fn refusal(e: Refusal, out: &mut [u8; MOST_OUTPUT]) -> usize
-    ensures { Prints (printed (Output.Answer.refused (refusal_number e))) out.old out.new result }
+// Prints a refusal, whose number has at most two digits (any number is taken, and a format's contract says nothing of its bytes), at the front of the output, and how many bytes that is.
+pub fn refusal(number: u64, out: &mut [u8; MOST_OUTPUT]) -> usize
+    ensures { Prints (printed (Output.Answer.refused number)) out.old out.new result }
 {
-    let number = e.number();
     let at = put(b"refused ", out, 0);
     let ones = b'0' + (number % 10) as u8;
     if number < 10 {
@@ -186,12 +185,12 @@ pub fn answer(input: &[u8], out: &mut [u8; MOST_OUTPUT]) -> usize
     ensures { Prints (output input.now) out.old out.new result }
 {
     let Some(places) = four(input) else {
-        return refusal(Refusal::Malformed, out);
+        return refusal(Refusal::Malformed.number(), out);
     };
     let mut cipher = [0u8; MOST_BYTES];
     let sealed = seal_lines(input, places, &mut cipher);
     let Ok(s) = sealed else {
-        return refusal(sealed.unwrap_err(), out);
+        return refusal(sealed.unwrap_err().number(), out);
     };
     two_lines(&cipher[..s.count], &s.tag, out)
 }

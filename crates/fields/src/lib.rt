@@ -44,7 +44,7 @@ pub fn same(s: &[u8], at: usize, t: &[u8]) -> bool
     all
 }
 
-// The k low bytes of n, low byte first, at a place. Every other byte stays.
+// The k low bytes of n, low byte first, at a place, for every k: `to_le_bytes` has one width. Every other byte stays.
 pub fn put(out: &mut [u8], at: usize, k: usize, n: u64)
     requires { at + k ≤ length out.old }
     ensures { out.new ≡ sets out.old at (little k n) }

@@ -44,7 +44,7 @@ fn xor(a: Element, b: Element) -> Element
     }
 }
 
-// A block of the cipher, and back: the same 16 bytes.
+// A block of the cipher, and back: the same 16 bytes. No library method joins two words or takes a half apart.
 pub fn from_block(b: Block) -> Element
     ensures { bytes_of_element result ≡ bytes_of b }
 {

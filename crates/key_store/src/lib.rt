@@ -134,7 +134,7 @@ fn again(store: &[u8], i: usize) -> bool
 }
 
 // What the blocks of a store say, one after the other: whether all obey the rules and no number stands twice; and the places of the first one that is empty,
-// of the first that has a number, and of the first that holds its key.
+// of the first that has a number, and of the first that holds its key. `sound` is what all looks together say, and no answer.
 #[derive(Clone, Copy)]
 struct Seen {
     sound: bool,
@@ -164,7 +164,7 @@ fn look(s: Seen, store: &[u8], i: usize, iv: Block) -> Seen
     }
 }
 
-// All blocks, each by one look, which compares its number with those before it. Where there are not whole ones only, the store is not sound.
+// All blocks (with the page file's survey this shares the loop alone), each by one look, which compares its number with those before it. Where there are not whole ones only, the store is not sound.
 fn survey(store: &[u8], iv: &[u8]) -> Seen
     requires { length iv.now ≡ 16 }
     ensures { Surveyed iv.now (whole store.now) (blocks store.now) result }

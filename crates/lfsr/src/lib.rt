@@ -9,7 +9,7 @@ ghost use Rattle.lfsr.specs.Unclock;
 ghost use Rattle.lfsr.specs.Unclock.{solved_v, unclocks};
 ghost use Rattle.lfsr.specs.Machine.{lfsr_of};
 
-// LFSR-A and LFSR-B.
+// LFSR-A and LFSR-B, the paper's two registers.
 #[derive(Clone, Copy, PartialEq, Eq)]
 pub struct Lfsr {
     pub a: [u16; 16],

@@ -91,6 +91,7 @@ pub fn seal(
 
 // What the headers of a file's pages say, page by page in file order: whether all have their length and their day in range; and of a stay, how many pages
 // it has, whether they run 0, 1, 2 .., whether they hold the day of the first, that day, and the place of its page n.
+// The bools are what all looks together say, and no answers.
 #[derive(Clone, Copy)]
 struct Seen {
     ranged: bool,
@@ -139,7 +140,7 @@ fn look(s: Seen, page: &[u8], i: usize, stay: &[u8], n: u32) -> Seen
     t
 }
 
-// The headers of all pages, each looked at once.
+// The headers of all pages, each looked at once. With the key store's survey it shares the loop alone.
 fn survey(file: &[u8], stay: &[u8], n: u32) -> Seen
     requires { length stay.now ≡ 12 }
     ensures { Surveyed stay.now n (pages file.now) result }

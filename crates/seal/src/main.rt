@@ -32,10 +32,11 @@ fn read_all<R: Read>(from: &mut R, buf: &mut [u8]) -> io::Result<usize>
 fn run<R: Read, W: Write>(from: &mut R, to: &mut W) -> io::Result<Option<usize>>
     ensures { IfOk result (λ input. Answers (R.remaining from.old) input (W.contents to.old) (W.contents to.new)) }
 {
+    // No memory is claimed.
     let mut buf = [0u8; BUFFER];
     let mut out = [0u8; command::MOST_OUTPUT];
     let Ok(n) = read_all(from, &mut buf) else {
-        let k = command::refusal(Refusal::Malformed, &mut out);
+        let k = command::refusal(Refusal::Malformed.number(), &mut out);
         to.write_all(&out[..k])?;
         return Ok(None);
     };

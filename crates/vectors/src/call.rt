@@ -4,7 +4,6 @@ ghost use Rattle.std.specs.Prelude.{◌≡◌, length};
 use crate::report::{Answer, Hex, Traced};
 use crate::{lent, vector};
 use cipher::State;
-use scope::Refusal;
 use std::io;
 
 // What an output is filled with before it is lent, so that a byte written to it shows.
@@ -30,7 +29,7 @@ pub fn run(rt: &impl Print, s: State, out: &mut [u8], n: usize, back: bool) -> i
         "run of {n} {way} at count {}, output of {len} bytes: ",
         s.count
     )?;
-    let mut answer = Err(Refusal::NoKey);
+    let mut answer: u64 = 255;
     let mut t = s;
     let wrote = lent::measured(&mut t, &mut answer, out, n, back);
     print!(rt; "{}, part of {wrote} bytes, ", Answer(answer))?;

@@ -19,15 +19,15 @@ impl fmt::Display for Hex {
     }
 }
 
-// What a run answers.
+// What a run answers: it is lent a number, as document 01 has it.
 #[derive(Clone, Copy)]
-pub struct Answer(pub Result<(), Refusal>);
+pub struct Answer(pub u64);
 
 impl fmt::Display for Answer {
     fn fmt<W: fmt::Write>(&self, f: &mut fmt::Formatter<W>) -> fmt::Result {
         match self.0 {
-            Ok(()) => write!(f, "accepted"),
-            Err(e) => write!(f, "{e}"),
+            0 => write!(f, "accepted"),
+            n => write!(f, "refused {n}"),
         }
     }
 }

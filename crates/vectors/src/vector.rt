@@ -113,7 +113,7 @@ fn run(s: State, out: &mut [u8], back: bool) -> State
     requires { length out.old ≡ 128 }
     ensures { length out.new ≡ length out.old }
 {
-    let mut answer = Ok(());
+    let mut answer: u64 = 0;
     let mut t = s;
     lent::measured(&mut t, &mut answer, out, 8, back);
     t

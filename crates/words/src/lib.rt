@@ -86,7 +86,7 @@ fn load_word(p: &[u8], at: usize) -> u32
     u32::from_le_bytes([p[at], p[at + 1], p[at + 2], p[at + 3]])
 }
 
-// Two words as a number of 64 bits, the low one first.
+// Two words as a number of 64 bits, the low one first. No library method joins two words.
 pub fn join(lo: u32, hi: u32) -> u64
     ensures { little 8 result ≡ little 4 lo ++ little 4 hi }
 {

@@ -15,8 +15,7 @@ use types.Part.{agg, whole, sub}
 use types.Run.{stop, fld, hop, from, addr, and_then, no_more, returns, enter}
 use types.ByLocal.{alloc_all, pass_all, free_all, look_at, look_in_at, get, get_in, through, sets, lands_as}
 use types.Tokens.{lft_new, lft_end}
-use denote.RattleType.{RattleType}
-use denote.Builtin.{u8, unit, usize, bool}
+use denote.Builtin.{u8, u64, usize, bool}
 use denote.Exit.{yes, no}
 use denote.Laws.{shows}
 use denote.Plain.{uint_vals, uint_Tells, bool_vals, bool_Tells}
@@ -32,9 +31,6 @@ use denote.Triple.Spec.{triple_of}
 use denote.Triple.Table.{framed}
 use denote.Triple.Walked.{Stays, stay_dropped, gave_ref, walk_of, ends_at, Goes-dropped, Goes-gave_ref, Goes-spent_slice}
 use Rattle.std.proofs.raw_atomic.Walks.{proved}
-use Rattle.std.specs.contracts.result.Result as result
-use Rattle.scope.specs.contracts.Refusal as refusal
-use Rattle.scope.specs.Machine.{answer_number}
 use Rattle.cipher.specs.State.{run_number, run_state, run_part}
 use Rattle.cipher.specs.Machine.{state_of}
 use Rattle.cipher.specs.contracts.State.{the_row as R}
@@ -45,21 +41,17 @@ use Rattle.cipher.proofs.run_lent.Met.{met}
 use Rattle.cipher.proofs.run.Statement.{statement}
 use Rattle.cipher.proofs.run.Code as code
 
--- the answer, as the logic has it
-abbrev A : RattleType
-A = result.the_row unit refusal.the_row
-
 abbrev stayed : Stays f.ended.signature.params f.ended.kept
-stayed = (gave_ref (0 ∷ []) tt (plain (λ _. R)), (gave_ref (1 ∷ []) tt (plain (λ _. A)), (stay_dropped (mut_slice_of (2 ∷ []) tt (plain (λ _. u8))) no, (stay_dropped (plain (λ _. usize)) yes, (stay_dropped (plain (λ _. bool)) yes, tt)))))
+stayed = (gave_ref (0 ∷ []) tt (plain (λ _. R)), (gave_ref (1 ∷ []) tt (plain (λ _. u64)), (stay_dropped (mut_slice_of (2 ∷ []) tt (plain (λ _. u8))) no, (stay_dropped (plain (λ _. usize)) yes, (stay_dropped (plain (λ _. bool)) yes, tt)))))
 
 pub run_spec : {M : Type 1} → statement M
 run_spec 𝓤 𝓛 𝓜 𝓡 wired =
     let c = f.clauses 𝓛 𝓜.mem 𝓡.returns in let W = walk_of 𝓛 f.ended stayed c in
     proved 𝓛 f.ended stayed c 𝓜 𝓡
-    (Goes-gave_ref 𝓛 3 0 tt (plain (λ _. R)), (Goes-gave_ref 𝓛 3 1 tt (plain (λ _. A)), (Goes-spent_slice 𝓛 3 (2 ∷ []) tt (plain (λ _. u8)), (Goes-dropped 𝓛 3 (plain (λ _. usize)) yes (λ κs x w. refl), (Goes-dropped 𝓛 3 (plain (λ _. bool)) yes (λ κs x w. refl), tt)))))
+    (Goes-gave_ref 𝓛 3 0 tt (plain (λ _. R)), (Goes-gave_ref 𝓛 3 1 tt (plain (λ _. u64)), (Goes-spent_slice 𝓛 3 (2 ∷ []) tt (plain (λ _. u8)), (Goes-dropped 𝓛 3 (plain (λ _. usize)) yes (λ κs x w. refl), (Goes-dropped 𝓛 3 (plain (λ _. bool)) yes (λ κs x w. refl), tt)))))
     f.Key.name code.function (code.unfolded 𝓤 𝓛.H 𝓜 𝓡 wired)
     (λ κs. (mut_vals, (mut_vals, (mut_slice_vals, (uint_vals w64, (bool_vals, tt))))))
-    (λ κs. (mut_Tells (named 0) κs.0 R, (mut_Tells (named 1) κs.1.0 A, (mut_slice_Tells (named 2) κs.1.1.0 u8, (uint_Tells w64, (bool_Tells, tt)))))) (λ κs qs bounds a _ are.
+    (λ κs. (mut_Tells (named 0) κs.0 R, (mut_Tells (named 1) κs.1.0 u64, (mut_slice_Tells (named 2) κs.1.1.0 u8, (uint_Tells w64, (bool_Tells, tt)))))) (λ κs qs bounds a _ are.
     let κ₀ = κs.0 in let κ₁ = κs.1.0 in let κ₂ = κs.1.1.0 in let q₀ = qs.0 in let q₁ = qs.1.0 in let q₂ = qs.1.1.0 in
     let s = a.0 in let answer = a.1.0 in let out = a.1.1.0 in let n = a.1.1.1.0 in let back = a.1.1.1.1.0 in
     let b = out.ref_ptr.0 in let o = out.ref_ptr.1 in let xs = out.now in
@@ -69,7 +61,7 @@ run_spec 𝓤 𝓛 𝓜 𝓡 wired =
     let y : W.Ghost = ((κs, qs, bounds, a, (mut_vals s, (mut_vals answer, (mut_slice_vals out, (ns, (bs, tt)))))), tt) in
     let at : GName → List ℕ → MutBor (List ℕ) = λ δ l. record { ref_ptr = (b, o); ghost_name = δ; now = l } in
     let Part = λ (ε : GName) (j : ℕ). ‵ ((MutSlice (named 2) κ₂ u8).own_val (at ε ys) (slice_val (b, o) j ∷ [])) in
-    qed 𝓛 (((‵ (flft κ₀ q₀) ⊛ ‵ (flft κ₁ q₁) ⊛ ‵ (flft κ₂ q₂) ⊛ ‵ ftrue) ⊛ ‵ ((MutRef (named 0) κ₀ R).own_val s (mut_vals s)) ⊛ ‵ ((MutRef (named 1) κ₁ A).own_val answer (mut_vals answer)) ⊛
+    qed 𝓛 (((‵ (flft κ₀ q₀) ⊛ ‵ (flft κ₁ q₁) ⊛ ‵ (flft κ₂ q₂) ⊛ ‵ ftrue) ⊛ ‵ ((MutRef (named 0) κ₀ R).own_val s (mut_vals s)) ⊛ ‵ ((MutRef (named 1) κ₁ u64).own_val answer (mut_vals answer)) ⊛
     ‵ ((MutSlice (named 2) κ₂ u8).own_val out (mut_slice_vals out)) ⊛ ‵ (usize.own_val n ns) ⊛ ‵ (bool.own_val back bs) ⊛ ‵ ftrue) ∷ ‵ ftrue ∷ []) ∵
     split ! $ split3 ! $ move ! (2 ∷ []) $ split ! $ move ! (4 ∷ []) $ split3 ! $ move ! (2 ∷ []) $ split3 ! $ move ! (2 ∷ []) $ split ! $
     keep ! (4 ∷ 5 ∷ 8 ∷ 9 ∷ 3 ∷ 0 ∷ 2 ∷ 6 ∷ []) $
@@ -92,7 +84,7 @@ run_spec 𝓤 𝓛 𝓜 𝓡 wired =
     (and_then ! (get ! refl) (and_then ! (get ! refl) (and_then ! (get ! refl) (and_then ! (get ! refl) (and_then ! (get ! refl) (no_more !)))))) (λ v.
     use1 𝓛 (later (some (λ (k : ℕ). ((‵ (flft κ₀ q₀) ⊛ ‵ (flft κ₁ q₁) ⊛ ‵ (flft (α ∷ []) full_share) ⊛ ‵ ftrue) ⊛ ‵ (usize.own_val k (v ∷ []))) ⊛
     some (λ (ws : Lasts g.ended z.0.0 z.0.3). ‵ (lasts g.ended z.0.0 z.0.3 ws) ⊛ raw (fact 𝓤 (state_of ws.0 ≡ run_state back (state_of s.now) (length xs) n)) ⊛ raw (fact 𝓤 (k ≡ length ys)) ⊛
-    raw (fact 𝓤 (answer_number ws.1.0 ≡ run_number back s.now.count (length xs) n)) ⊛ raw (fact 𝓤 (ws.1.1.0 ≡ ys ++ rest)))))) (id⊢ 𝓤 _) $ await ! tt $ pick ! (λ k. split ! $ split ! $ move ! (1 ∷ []) $
+    raw (fact 𝓤 (ws.1.0 ≡ run_number back s.now.count (length xs) n)) ⊛ raw (fact 𝓤 (ws.1.1.0 ≡ ys ++ rest)))))) (id⊢ 𝓤 _) $ await ! tt $ pick ! (λ k. split ! $ split ! $ move ! (1 ∷ []) $
     peeks ! usize _ (shows 𝓛 usize) k (v ∷ []) (λ is. drop ! $
     -- [the tokens; the last values; what is kept; the locals]
     lands_as ! (ap only is.0) refl (tt, record { fits = is.1 }) $ move ! (1 ∷ []) $ pick ! (λ ws. split ! $ move ! (1 ∷ []) $
@@ -111,5 +103,5 @@ run_spec 𝓤 𝓛 𝓜 𝓡 wired =
     nothing ! $ nothing ! $ fjoin ! $ nothing ! $ fjoin ! $ nothing ! $ fjoin ! $ move ! (7 ∷ 0 ∷ []) $ fjoin ! $ move ! (6 ∷ 0 ∷ []) $ fjoin ! $ join ! $
     nothing ! $ move ! (2 ∷ 0 ∷ []) $ join ! $ move ! (4 ∷ 0 ∷ []) $ join ! $ move ! (3 ∷ 0 ∷ []) $ join ! $ join ! $ move ! (1 ∷ []) $
     use0 𝓛 (raw (fact 𝓤 ((out.ref_ptr ≡ out.ref_ptr) × (ys ≡ ys)))) (fact_i 𝓤 _ (emp 𝓤) (refl, refl)) $ join ! $
-    use0 𝓛 (raw (fact 𝓤 (answer_number ws.1.0 ≡ run_number back s.now.count (length xs) n))) (fact_i 𝓤 _ (emp 𝓤) answer_is) $ join ! $
+    use0 𝓛 (raw (fact 𝓤 (ws.1.0 ≡ run_number back s.now.count (length xs) n))) (fact_i 𝓤 _ (emp 𝓤) answer_is) $ join ! $
     use0 𝓛 (raw (fact 𝓤 (state_of ws.0 ≡ run_state back (state_of s.now) (length xs) n))) (fact_i 𝓤 _ (emp 𝓤) state_is) $ join ! $ move ! (1 ∷ []) $ done !)))))))))))))
