@@ -6,6 +6,7 @@ use lib.ListN.{length, drop}
 use Rattle.scope.specs.Refusals.{granted}
 use Rattle.start.specs.Start.{start_number}
 use Rattle.session.specs.Session.{Session}
+use Rattle.session.proofs.Numbers.{finish_late, finish_due}
 use Rattle.session.specs.Calls.{Given, begin_call, text_number, text_call, finish_call}
 use Rattle.session.specs.Pieces.{closed, text_out}
 use Rattle.layout.specs.Block.{block_of}
@@ -39,6 +40,15 @@ text_again v p out = granted_again (text_number v p out) (text_out (closed v) p 
 pub suspend_again : (v : Session) (b : List ℕ) → (suspend_call v b).out ≡ granted (suspend_call v b).number (suspend_call v b).out b
 unfolding suspend_call
 suspend_again v b = granted_again (suspend_number v b) (block_of (suspension_of v) ++ drop 512 b) b
+
+-- finish's number by the phase
+pub finish_ended : (v : Session) → 2 ≤ v.phase → 7 ≡ (finish_call v).number
+unfolding finish_call
+finish_ended v h = sym (finish_late v h)
+
+pub finish_open : (v : Session) → v.phase < 2 → 0 ≡ (finish_call v).number
+unfolding finish_call
+finish_open v h = sym (finish_due v h)
 
 -- ---- calls that read a session: u is the one that its 240 bytes list
 

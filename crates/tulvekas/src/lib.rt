@@ -192,10 +192,11 @@ pub fn tulvekas_begin(key: &[u8], iv: &[u8], session: &mut [u8]) -> Result<(), R
     ensures answer { answer_number result ≡ begin_answer key.now iv.now session.old }
     ensures session { BeginLeaves key.now iv.now session.old session.new }
 {
-    let s = session::begin(key, iv)?;
+    start::lengths(key, iv)?;
     if session.len() < bytes_c::SESSION_BYTES {
         return Err(Refusal::ShortOutput);
     }
+    let s = session::begin(key, iv)?;
     bytes_c::store_session(session, s);
     Ok(())
 }
@@ -240,13 +241,16 @@ pub fn tulvekas_finish(session: &mut [u8], tag: &mut [u8], iv: &mut [u8]) -> Res
         return Err(Refusal::BadBlock);
     }
     let mut s = bytes_c::load_session(session);
-    let f = session::finish(&mut s)?;
+    if s.phase >= 2 {
+        return Err(Refusal::OutOfPhase);
+    }
     if tag.len() < TAG_BYTES {
         return Err(Refusal::ShortOutput);
     }
     if iv.len() < IV_BYTES {
         return Err(Refusal::ShortOutput);
     }
+    let f = session::finish(&mut s)?;
     let t = f.tag;
     let v = f.iv;
     bytes_c::store_session(session, s);
@@ -307,12 +311,13 @@ pub fn tulvekas_keystream(key: &[u8], iv: &[u8], sealed: u64, out: &mut [u8]) ->
     ensures answer { answer_number result ≡ keystream_answer key.now iv.now out.old }
     ensures out { out.new ≡ keystream_writes key.now iv.now sealed out.old }
 {
-    let rounds = wide_round::table();
-    let s = start::start_with(key, iv, bytes_c::mode_named(sealed), &rounds)?;
+    start::lengths(key, iv)?;
     let blocks = out.len() / 16;
     if blocks as u64 > scope::MOST_BLOCKS {
         return Err(Refusal::CountTooHigh);
     }
+    let rounds = wide_round::table();
+    let s = start::start_with(key, iv, bytes_c::mode_named(sealed), &rounds)?;
     fill(s.registers, &rounds, out);
     Ok(())
 }
@@ -322,10 +327,11 @@ pub fn tulvekas_start(key: &[u8], iv: &[u8], sealed: u64, state: &mut [u8]) -> R
     ensures answer { answer_number result ≡ start_answer key.now iv.now state.old }
     ensures state { StartLeaves key.now iv.now sealed state.old state.new }
 {
-    let s = start::start(key, iv, bytes_c::mode_named(sealed))?;
+    start::lengths(key, iv)?;
     if state.len() < bytes_c::STATE_BYTES {
         return Err(Refusal::ShortOutput);
     }
+    let s = start::start(key, iv, bytes_c::mode_named(sealed))?;
     bytes_c::store_state(state, s);
     Ok(())
 }

@@ -1,4 +1,4 @@
--- `tulvekas::tulvekas_finish` meets its contract, by the session's length, the answer of the call below and the lengths of both buffers.
+-- `tulvekas::tulvekas_finish` meets its contract, by the session's length, its phase, the lengths of both buffers and the answer of the call below.
 use mathlib.Core.Bool.{not}
 use Prim.Native.Nat.{ℕ}
 use mathlib.Core.Path.{◌≡◌, refl, ap, ◌∙◌}
@@ -7,13 +7,14 @@ use native.Mathlib.Omega.{arith}
 use lib.ListN.{length, drop}
 use Rattle.std.proofs.lemmas.Result.{err_from_is_err_and}
 use Rattle.scope.proofs.Refused.{refused}
+use Rattle.session.specs.Machine.{session_of}
 use Rattle.session.specs.Calls.{finish_call, Finished}
 use Rattle.bytes_c.specs.Order.{next, room, buffer_after}
 use Rattle.bytes_c.specs.SessionBytes.{session_in, Leaves}
 use Rattle.bytes_c.proofs.Answering.{never, unwritten, accepted}
 use Rattle.tulvekas.specs.Sessions.{finish_answer}
 use Rattle.tulvekas.proofs.Answering.{leaves_all, leaves_stored, torn, long}
-use Rattle.tulvekas.proofs.SessionAnswers.{finish_refused, finish_short, finish_short_iv, finish_right}
+use Rattle.tulvekas.proofs.SessionAnswers.{finish_ended, finish_open, finish_refused, finish_short, finish_short_iv, finish_right}
 use Rattle.tulvekas.proofs.tulvekas_finish.Goals as goal
 use Rattle.tulvekas.proofs.tulvekas_finish.Goals.{Else-not-is_session}
 
@@ -34,6 +35,14 @@ returns-then-not-is_session c =
     let p = refusal e (never 7) g a.session.now a.tag.now a.iv.now in
     record { answer = p.0; session = p.1.0; tag = p.1.1.0; iv = p.1.1.1 }
 
+pub returns-then-s-ge2 : goal.returns-then-s-ge2
+returns-then-s-ge2 c =
+    let a = c.args in
+    let n = finish_ended (session_of c.load_session-s.result) c.if-s-ge2.true in
+    let e = finish_refused a.session.now (is_long (goal.at.returns-then-s-ge2 c).Else-not-is_session) c.load_session-s.ensures a.tag.now a.iv.now n (never 6) in
+    let p = refusal e (never 6) (finish_call (session_in a.session.now)) a.session.now a.tag.now a.iv.now in
+    record { answer = p.0; session = p.1.0; tag = p.1.1.0; iv = p.1.1.1 }
+
 pub returns-in_err-f : goal.returns-in_err-f
 returns-in_err-f c =
     let a = c.args in
@@ -47,7 +56,7 @@ returns-in_err-f c =
 pub returns-then-tag-lt-TAG_BYTES : goal.returns-then-tag-lt-TAG_BYTES
 returns-then-tag-lt-TAG_BYTES c =
     let a = c.args in
-    let n = ap (λ (u : Finished). u.number) c.in_ok-f.ensures in
+    let n = finish_open (session_of c.load_session-s.result) c.if-s-ge2.false in
     let e = finish_short a.session.now (is_long (goal.at.returns-then-tag-lt-TAG_BYTES c).Else-not-is_session) c.load_session-s.ensures a.tag.now a.iv.now n
     refl c.if-tag-lt-TAG_BYTES.true in
     let p = refusal e (never 3) (finish_call (session_in a.session.now)) a.session.now a.tag.now a.iv.now in
@@ -56,7 +65,7 @@ returns-then-tag-lt-TAG_BYTES c =
 pub returns-then-iv-lt-IV_BYTES : goal.returns-then-iv-lt-IV_BYTES
 returns-then-iv-lt-IV_BYTES c =
     let a = c.args in
-    let n = ap (λ (u : Finished). u.number) c.in_ok-f.ensures in
+    let n = finish_open (session_of c.load_session-s.result) c.if-s-ge2.false in
     let e = finish_short_iv a.session.now (is_long (goal.at.returns-then-iv-lt-IV_BYTES c).Else-not-is_session) c.load_session-s.ensures a.tag.now a.iv.now n
     refl c.if-tag-lt-TAG_BYTES.false c.if-iv-lt-IV_BYTES.true in
     let p = refusal e (never 3) (finish_call (session_in a.session.now)) a.session.now a.tag.now a.iv.now in

@@ -1,4 +1,4 @@
--- `tulvekas::tulvekas_keystream` meets its contract, by the lengths and the count: as many whole blocks as fit have room.
+-- `tulvekas::tulvekas_keystream` meets its contract, by the lengths, the count and the answer of the start: as many whole blocks as fit have room.
 use Prim.Native.Nat.{◌*◌}
 use mathlib.Core.Path.{refl, ap, ◌∙◌}
 use mathlib.Core.List.{◌++◌}
@@ -15,11 +15,23 @@ use Rattle.tulvekas.specs.Cipher.{fitting}
 use Rattle.tulvekas.proofs.CipherAnswers.{keystream_refused, keystream_far, keystream_right}
 use Rattle.tulvekas.proofs.tulvekas_keystream.Goals as goal
 
+pub returns-in_err-lengths : goal.returns-in_err-lengths
+returns-in_err-lengths c =
+    let a = c.args in
+    let out = a.out.now in
+    let p = err_from_is_err_and c.from_residual.result c.from_residual.ensures.1 in
+    let h = refused c.in_err-lengths.field-0.0 in
+    let e = keystream_refused a.key.now a.iv.now out c.in_err-lengths.ensures h in
+    record {
+      answer = rw (p.1, p.2) e;
+      out = unwritten e (16 * fitting out) (blocks forward (fitting out) (start a.key.now a.iv.now (mode_named a.sealed))) out h;
+    }
+
 pub returns-in_err-s : goal.returns-in_err-s
 returns-in_err-s c =
     let a = c.args in
     let out = a.out.now in
-    let p = err_from_is_err_and c.from_residual.result c.from_residual.ensures.1 in
+    let p = err_from_is_err_and c.from_residual-in_err-s.result c.from_residual-in_err-s.ensures.1 in
     let h = refused c.in_err-s.field-0.0 in
     let e = keystream_refused a.key.now a.iv.now out c.in_err-s.ensures h in
     record {
@@ -31,7 +43,7 @@ pub returns-then-blocks-gt-MOST_BLOCKS : goal.returns-then-blocks-gt-MOST_BLOCKS
 returns-then-blocks-gt-MOST_BLOCKS c =
     let a = c.args in
     let out = a.out.now in
-    let e = keystream_far a.key.now a.iv.now out c.in_ok-s.ensures.0 refl c.if-blocks-gt-MOST_BLOCKS.true in
+    let e = keystream_far a.key.now a.iv.now out c.in_ok-lengths.ensures refl c.if-blocks-gt-MOST_BLOCKS.true in
     record { answer = e; out = unwritten e (16 * fitting out) (blocks forward (fitting out) (start a.key.now a.iv.now (mode_named a.sealed))) out (never 8) }
 
 pub returns : goal.returns
