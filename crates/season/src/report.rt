@@ -1,6 +1,6 @@
 // What the program writes of an answer and of bytes.
 use scope::Refusal;
-use std::io;
+use std::{fmt, io};
 
 // What a seal answers with.
 pub fn answer(rt: &impl Print, answer: Result<(), Refusal>) -> io::Result<()> {
@@ -10,9 +10,20 @@ pub fn answer(rt: &impl Print, answer: Result<(), Refusal>) -> io::Result<()> {
     }
 }
 
-pub fn hex(rt: &impl Print, s: &[u8]) -> io::Result<()> {
-    for b in s {
-        print!(rt; "{b:02x}")?;
+// The digits of bytes in hex.
+#[derive(Clone, Copy)]
+struct Digits<'a>(&'a [u8]);
+
+impl<'a> fmt::Display for Digits<'a> {
+    fn fmt<W: fmt::Write>(&self, f: &mut fmt::Formatter<W>) -> fmt::Result {
+        for b in self.0 {
+            write!(f, "{b:02x}")?;
+        }
+        Ok(())
     }
-    Ok(())
+}
+
+// One print for all bytes: each is a write.
+pub fn hex(rt: &impl Print, s: &[u8]) -> io::Result<()> {
+    print!(rt; "{}", Digits(s))
 }
