@@ -5,7 +5,7 @@ use Rattle.words.specs.Bytes.{part}
 use Rattle.words.proofs.Parts.{part_long}
 use Rattle.page.specs.Page.{cipher_of}
 use Rattle.page.specs.Calls as Page
-use Rattle.page.proofs.Answers.{seal_accepted, seal_writes, seal_gives, open_by_tag}
+use Rattle.page.proofs.Answers.{seal_writes, seal_gives, open_by_tag}
 use Rattle.key_store.specs.Layout.{block_of, held_block}
 use Rattle.key_store.specs.Inner.{open_number, Opens}
 
@@ -19,10 +19,6 @@ sealed key iv k c tag v t kl il sl ec et ev ett =
     let whole = ap (λ (m : ℕ). cipher_of key iv k ++ drop m (replicate 32 0)) sl ∙ append-nil (cipher_of key iv k) in
     ap (λ (l : List ℕ). block_of (record { mark = 1; iv = l; sealed = c; tag = t })) ev
     ∙ ap₂ (λ (l m : List ℕ). block_of (record { mark = 1; iv = iv; sealed = l; tag = m })) (ec ∙ w ∙ whole) (ett ∙ et ∙ g)
-
--- where it seals, nothing is refused
-pub allowed : (key iv k : List ℕ) → length key ≡ 32 → length iv ≡ 16 → length k ≡ 32 → Page.seal_number key iv [] k (replicate 32 0) ≡ 0
-allowed key iv k kl il sl = seal_accepted key iv [] kl il (lit≤ tt) k (replicate 32 0) (omega arith) (omega arith)
 
 module _ (key iv b : List ℕ) (kl : length key ≡ 32) (il : length iv ≡ 16) (bl : length b ≡ 512) where
   cl : length (part 32 32 b) ≡ 32

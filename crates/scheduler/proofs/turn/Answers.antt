@@ -54,6 +54,21 @@ given : (b p o : List ℕ) (i : ℕ) {s : Session} → next scheduler_order (sch
     → text_call s p o ≡ sealing (next scheduler_order (scheduler_in b)) p o
 given b p o i x e = ap (λ (s : Session). text_call s p o) e ∙ ap (λ (y : Stay). sealing y p o) (sym x)
 
+pub returns : goal.returns
+returns c =
+    let a = c.args in
+    let b = a.scheduler.now in
+    let p = a.piece.now in
+    let o = a.out.now in
+    let i = c.in-Some.i in
+    let k = rw c.in-Some.is at c.in_ok-i.ensures in
+    let x = found_next b i k.1 in
+    let g = given b p o i x c.session_at-u.ensures in
+    let said = c.in_ok-text.ensures in
+    subst (λ (l : List ℕ). Turns b p o (Ok (Some c.served.result)) l c.served.new.s) (sym (said.out ∙ ap (λ (y : Given). y.out) g))
+    (turns_served b p o (sym k.0) k.1.0 i (session_of c.text.new.s) k.1.1 x (said.says.session ∙ ap (λ (y : Given). y.session) g)
+    (sym (said.says.number ∙ ap (λ (y : Given). y.number) g)) c.served.ensures.says c.served.ensures.bytes)
+
 -- a refused piece writes nothing
 refused_out : (s : Session) (p o : List ℕ) → ¬ ((text_call s p o).number ≡ 0) → (text_call s p o).out ≡ o
 unfolding text_call
@@ -104,18 +119,3 @@ served-requires c =
     let q = sealed_open (session_of c.session_at-u.result) a.piece.now a.out.now (sym said.number) in
     let early : c.text.new.s.phase < 2 = subst (λ (m : ℕ). m < 2) (sym (ap (λ (s : Session). s.phase) said.session)) q in
     (looked_long b n (sym k.0), found_inside b i k.1, found_more b i k.1 n (sym k.0), early)
-
-pub returns : goal.returns
-returns c =
-    let a = c.args in
-    let b = a.scheduler.now in
-    let p = a.piece.now in
-    let o = a.out.now in
-    let i = c.in-Some.i in
-    let k = rw c.in-Some.is at c.in_ok-i.ensures in
-    let x = found_next b i k.1 in
-    let g = given b p o i x c.session_at-u.ensures in
-    let said = c.in_ok-text.ensures in
-    subst (λ (l : List ℕ). Turns b p o (Ok (Some c.served.result)) l c.served.new.s) (sym (said.out ∙ ap (λ (y : Given). y.out) g))
-    (turns_served b p o (sym k.0) k.1.0 i (session_of c.text.new.s) k.1.1 x (said.says.session ∙ ap (λ (y : Given). y.session) g)
-    (sym (said.says.number ∙ ap (λ (y : Given). y.number) g)) c.served.ensures.says c.served.ensures.bytes)

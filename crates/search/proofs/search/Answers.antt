@@ -43,7 +43,7 @@ fit c = let a = c.args in searchable a.dump.now a.key.now a.lowest a.highest (sy
 
 pub upward-requires : goal.upward-requires
 upward-requires c =
-    let s = fit (goal.at.upward-requires c).In_ok-range_allowed in (s.ordered, s.within, c.inverse_sbox-inverse.ensures)
+    let s = fit (goal.at.upward-requires c).In_ok-range_allowed in (omega (arith, s.ordered), omega (arith, s.within), c.inverse_sbox-inverse.ensures)
 
 pub returns : goal.returns
 returns c =
