@@ -4,11 +4,18 @@ use mathlib.Core.List.{List}
 use Prim.Native.Nat.{ℕ, ◌+◌, ◌*◌, ◌<◌}
 use native.Mathlib.Omega.{arith}
 use lib.ListN.{length}
+use Rattle.std.specs.Prelude.{Result, Ok, Err}
+use Rattle.scope.specs.declared.Refusal.{Refusal}
+use Rattle.scope.specs.Machine.{refusal_number}
 use Rattle.words.specs.Bytes.{little}
 use Rattle.words.proofs.Blocks.{four}
+use Rattle.calendar.specs.declared.Date as machine
 use Rattle.calendar.specs.Calendar.{Date}
+use Rattle.calendar.specs.Machine.{dated_of}
 use Rattle.bytes_c.specs.Order.{room, buffer_after}
 use Rattle.bytes_c.specs.Replies.{Reply, Reply.bytes, Reply.refused, reply_answer, reply_writes, date_bytes}
+use Rattle.bytes_c.specs.Machine.{dated_by}
+use Rattle.bytes_c.specs.Inner.{FitsBytes}
 
 pub date_long : (d : Date) → length (date_bytes d) ≡ 4
 unfolding little date_bytes
@@ -29,3 +36,15 @@ module _ (out : List ℕ) {a : Reply} where
 pub date_little : (d : Date) → d.year < 65536 → d.month < 256 → d.day < 256 → little 4 (d.year + 65536 * d.month + 16777216 * d.day) ≡ date_bytes d
 unfolding little date_bytes
 date_little d y m n = four (omega arith) (omega arith) (omega arith) (omega arith)
+
+-- ---- an answer of the code that is a date, or a refusal for which any number stands
+
+-- the documents' numbers give what the call below is said to answer
+pub by_refusal_number : (t : Result machine.Date Refusal) → dated_by refusal_number t ≡ dated_of t
+by_refusal_number (Ok d) = refl
+by_refusal_number (Err e) = refl
+
+-- only a date has to fit, so that every number serves where one does
+pub fits_whatever_number : {E : Type 0} (n : E → ℕ) (t : Result machine.Date E) → FitsBytes (dated_by n t) → (number : E → ℕ) → FitsBytes (dated_by number t)
+fits_whatever_number n (Ok d) h number = h
+fits_whatever_number n (Err e) h number = h

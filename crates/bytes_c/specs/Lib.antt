@@ -3,4 +3,5 @@ pub mod StateBytes
 pub mod SessionBytes
 pub mod Modes
 pub mod Replies
+pub mod Machine
 pub mod Inner

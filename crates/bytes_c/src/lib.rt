@@ -1,7 +1,8 @@
 // What C keeps and is told, as bytes: a state in 120, a session in 240, a date in four, and what a call leaves in a lent buffer. The calls for C stand on it.
 #![tactic(auto)]
 
-ghost use Rattle.std.specs.Prelude.{◌≡◌, ◌++◌, ◌+◌, ◌≤◌, length, take, drop};
+ghost use Rattle.std.specs.Prelude.{◌≡◌, ◌++◌, ◌+◌, ◌≤◌, ℕ, length, take, drop};
+ghost use Rattle.std.specs.Result.{IfErr};
 ghost use Rattle.std.proofs.lemmas.List.Edits.{sets};
 ghost use Rattle.scope.specs.Machine.{answer_number};
 ghost use Rattle.words.specs.Bytes.{little, part};
@@ -11,12 +12,13 @@ ghost use Rattle.cipher.specs.Machine.{state_of};
 ghost use Rattle.start.specs.Machine.{mode_of};
 ghost use Rattle.session.specs.Machine.{session_of};
 ghost use Rattle.calendar.specs.Inner.{Small};
-ghost use Rattle.calendar.specs.Machine.{date_of, dated_of};
+ghost use Rattle.calendar.specs.Machine.{date_of};
 ghost use Rattle.bytes_c.specs.Order.{room, buffer_after};
 ghost use Rattle.bytes_c.specs.StateBytes.{state_bytes, state_in, LeavesState};
 ghost use Rattle.bytes_c.specs.SessionBytes.{session_in, Leaves, is_session};
 ghost use Rattle.bytes_c.specs.Modes.{mode_named, mode_byte};
 ghost use Rattle.bytes_c.specs.Replies.{reply_answer, reply_writes, date_bytes, date_reply};
+ghost use Rattle.bytes_c.specs.Machine.{dated_by, told_number};
 ghost use Rattle.bytes_c.specs.Inner.{FitsBytes};
 
 use calendar::Date;
@@ -186,13 +188,14 @@ fn date_number(d: Date) -> u64
     d.year + 65536 * d.month + 16777216 * d.day
 }
 
-// A date's four bytes to the front of a buffer. Refused: what the answer refuses, 4.
+// A date's four bytes to the front of a buffer. Refused: what the answer refuses, as it came, whatever it is and whatever number stands for it; within, 4.
 #[tactic(auto, using(crate::proofs::Replies::date_long), unfolding(crate::specs::Replies::reply_answer, crate::specs::Replies::reply_writes))]
-pub fn reply_date(t: Result<Date, Refusal>, out: &mut [u8]) -> Result<(), Refusal>
-    requires { FitsBytes (dated_of t) }
-    ensures answer { answer_number result ≡ reply_answer (date_reply (dated_of t)) out.old }
-    ensures out { out.new ≡ reply_writes (date_reply (dated_of t)) out.old }
+pub fn reply_date<E>(t: Result<Date, E>, out: &mut [u8]) -> Result<Result<(), Refusal>, E>
+    requires { (number : E → ℕ) → FitsBytes (dated_by number t) }
+    ensures answer { (number : E → ℕ) → told_number number result ≡ reply_answer (date_reply (dated_by number t)) out.old }
+    ensures out { (number : E → ℕ) → out.new ≡ reply_writes (date_reply (dated_by number t)) out.old }
+    ensures refused { IfErr t (λ e. result ≡ Err e) }
 {
     let d = t?;
-    reply(out, DATE_BYTES, date_number(d))
+    Ok(reply(out, DATE_BYTES, date_number(d)))
 }

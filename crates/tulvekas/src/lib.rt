@@ -520,7 +520,7 @@ pub fn tulvekas_date(day: u64, date: &mut [u8]) -> Result<(), Refusal>
     ensures answer { answer_number result ≡ reply_answer (date_reply (to_date day)) date.old }
     ensures date { date.new ≡ reply_writes (date_reply (to_date day)) date.old }
 {
-    bytes_c::reply_date(calendar::to_date(day), date)
+    bytes_c::reply_date(calendar::to_date(day), date)?
 }
 
 // The day of a date, in 8 bytes, low byte first. Refused: 12 for a date that the calendar lacks or outside the years 2000 to 2199, 4.
@@ -546,5 +546,5 @@ pub fn tulvekas_kept_until(departure: u64, date: &mut [u8]) -> Result<(), Refusa
     ensures answer { answer_number result ≡ reply_answer (date_reply (kept_until departure)) date.old }
     ensures date { date.new ≡ reply_writes (date_reply (kept_until departure)) date.old }
 {
-    bytes_c::reply_date(retention::kept_until(departure), date)
+    bytes_c::reply_date(retention::kept_until(departure), date)?
 }
