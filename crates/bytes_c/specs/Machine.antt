@@ -1,4 +1,5 @@
--- Which date or refusal an answer of the code stands for, and the number that is answered, where the refusal is the caller's: whatever number stands for it.
+-- An answer of the code whose refusal may be of any type E, where `number` gives a number for each of its values: which date or refusal of the documents it
+-- stands for, and the number that is answered. What `number` is, is left open: a contract over these holds for every one.
 use Rattle.std.specs.Prelude.{ℕ, Result, Ok, Err}
 use Rattle.scope.specs.declared.Refusal.{Refusal}
 use Rattle.scope.specs.Machine.{answer_number}

@@ -188,7 +188,8 @@ fn date_number(d: Date) -> u64
     d.year + 65536 * d.month + 16777216 * d.day
 }
 
-// A date's four bytes to the front of a buffer. Refused: what the answer refuses, as it came, whatever it is and whatever number stands for it; within, 4.
+// A date's four bytes to the front of a buffer. What stands in the place of a date comes back as it came, in the outer `Err`, and nothing is written.
+// Refused, with a date: 4, in the inner one.
 #[tactic(auto, using(crate::proofs::Replies::date_long), unfolding(crate::specs::Replies::reply_answer, crate::specs::Replies::reply_writes))]
 pub fn reply_date<E>(t: Result<Date, E>, out: &mut [u8]) -> Result<Result<(), Refusal>, E>
     requires { (number : E → ℕ) → FitsBytes (dated_by number t) }

@@ -23,7 +23,7 @@ impl<'a> fmt::Display for Digits<'a> {
     }
 }
 
-// One print for all bytes: each is a write.
+// One print for all the bytes, since each print is a write.
 pub fn hex(rt: &impl Print, s: &[u8]) -> io::Result<()> {
     print!(rt; "{}", Digits(s))
 }
