@@ -5,7 +5,7 @@
 
 ghost use Rattle.std.specs.Prelude.{◌≡◌, false, List, ℕ, ◌+◌, ◌*◌, ◌%◌, ◌<◌, ◌≤◌, min, length, drop};
 ghost use Rattle.std.proofs.lemmas.List.Edits.{sets};
-ghost use Rattle.scope.specs.Limits.{most_stays, most_piece, most_turns};
+ghost use Rattle.scope.specs.Limits.{most_text, most_stays, most_piece, most_turns};
 ghost use Rattle.scope.specs.Machine.{refusal_number, answer_number};
 ghost use Rattle.scope.specs.Refusals.{short_output};
 ghost use Rattle.words.specs.Bytes;
@@ -183,9 +183,19 @@ pub fn join(scheduler: &mut [u8], key: &[u8], iv: &[u8], length: u64) -> Result<
     if present(scheduler, n, words::load(iv, 0)) {
         return Err(Refusal::NumberTaken);
     }
+    seated(scheduler, key, iv, length, n)
+}
+
+// A joining that is accepted, behind n stays: a call, so that what it keeps in registers costs nothing where a joining is refused.
+#[inline(never)]
+fn seated(scheduler: &mut [u8], key: &[u8], iv: &[u8], text: u64, n: usize) -> Result<(), Refusal>
+    requires { (length scheduler.old ≡ scheduler_length) × (length key.now ≡ 32) × (length iv.now ≡ 16) × (text ≤ most_text) × (n ≡ how_many scheduler.old) × (n < most_stays) × (0 ≡ join_answer scheduler.old key.now iv.now text) }
+    ensures answer { answer_number result ≡ join_answer scheduler.old key.now iv.now text }
+    ensures scheduler { JoinLeaves scheduler.old key.now iv.now text scheduler.new }
+{
     let fresh = session::begin(key, iv)?;
     let turns = fields::get(scheduler, 0, 8);
-    put_stay(scheduler, n, fresh, length, turns);
+    put_stay(scheduler, n, fresh, text, turns);
     put_head(scheduler, turns, n + 1);
     Ok(())
 }
