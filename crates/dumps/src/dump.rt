@@ -45,11 +45,11 @@ pub fn at(mode: Mode, n: usize) -> [u8; 112] {
     d
 }
 
-// A dump with a byte behind it.
-pub fn longer(d: [u8; 112]) -> [u8; 113] {
-    let mut e = [0; 113];
-    e[..112].copy_from_slice(&d);
-    e
+// The same with a byte behind it.
+pub fn longer(mode: Mode, n: usize) -> [u8; 113] {
+    let mut d = [0; 113];
+    d[..112].copy_from_slice(&at(mode, n));
+    d
 }
 
 // The suspended block of a session with 20 bytes of text, which has drawn 4 blocks.

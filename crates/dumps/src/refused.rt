@@ -50,7 +50,7 @@ fn others_first(rt: &impl Print, d: [u8; 113]) -> io::Result<()> {
 }
 
 pub fn lines(rt: &impl Print) -> io::Result<()> {
-    let d = dump::longer(dump::at(Mode::Plain, 100));
+    let d = dump::longer(Mode::Plain, 100);
     by_lengths(rt, d)?;
     by_range(rt, d)?;
     key_first(rt, d)?;

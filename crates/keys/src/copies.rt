@@ -3,6 +3,7 @@
 ghost use Rattle.std.specs.Prelude.{◌≤◌};
 
 use crate::{calls, report};
+use std::convert::AsSlice;
 use std::io;
 
 pub fn store(
@@ -41,10 +42,16 @@ pub fn erase(rt: &impl Print, iv: usize, kept: [u8; 2048], length: usize) -> io:
     print!(rt; " erase {}", report::number(answer))
 }
 
-pub fn line(rt: &impl Print, label: &str, kept: [u8; 2048], length: usize) -> io::Result<()>
+pub fn line<T: AsSlice<u8> + Drop>(
+    rt: &impl Print,
+    label: T,
+    kept: [u8; 2048],
+    length: usize,
+) -> io::Result<()>
     requires { length ≤ 2048 }
 {
-    print!(rt; "{label}: ")?;
+    rt.write_all(label.as_slice())?;
+    print!(rt; ": ")?;
     store(rt, 32, 16, 32, kept, length)?;
     fetch(rt, 32, 16, kept, length)?;
     erase(rt, 16, kept, length)?;

@@ -11,11 +11,11 @@ const DATA: [u8; 50] = *b"arrival 2026-07-03, departure 2026-07-17, pitch 12";
 const TEXT: [u8; 50] = *b"two adults, one child, one tent, tax of 1.10 a day";
 
 // The session that resume gives for the block of a session suspended. One of another IV counts as one that has no origin.
-pub fn resumed(s: &Session, key: &[u8; 32], iv: &[u8; 16]) -> Result<Session, Refusal> {
+pub fn resumed(s: &Session, key: &[u8], iv: &[u8]) -> Result<Session, Refusal> {
     let mut block = [0; 512];
     suspend::suspend(s, &mut block)?;
     let r = suspend::resume(key, &block)?;
-    if r.iv != *iv {
+    if r.iv.as_slice() != iv {
         return Err(Refusal::NoOrigin);
     }
     Ok(r)
@@ -24,8 +24,8 @@ pub fn resumed(s: &Session, key: &[u8; 32], iv: &[u8; 16]) -> Result<Session, Re
 // Whether the page sealed whole has this output, and the session finishes with its tag and IV.
 fn agrees(
     s: &mut Session,
-    key: &[u8; 32],
-    iv: &[u8; 16],
+    key: &[u8],
+    iv: &[u8],
     ad: &[u8],
     text: &[u8],
     sealed: &[u8; 64],
@@ -35,13 +35,7 @@ fn agrees(
     Ok(out == *sealed && pieces::finishes(s, &tag, iv)?)
 }
 
-fn data_cut(
-    key: &[u8; 32],
-    iv: &[u8; 16],
-    ad: &[u8],
-    text: &[u8],
-    cut: usize,
-) -> Result<bool, Refusal>
+fn data_cut(key: &[u8], iv: &[u8], ad: &[u8], text: &[u8], cut: usize) -> Result<bool, Refusal>
     requires { cut ≤ length ad.now }
 {
     let mut s = session::begin(key, iv)?;
@@ -53,13 +47,7 @@ fn data_cut(
     agrees(&mut t, key, iv, ad, text, &out)
 }
 
-fn text_cut(
-    key: &[u8; 32],
-    iv: &[u8; 16],
-    ad: &[u8],
-    text: &[u8],
-    cut: usize,
-) -> Result<bool, Refusal>
+fn text_cut(key: &[u8], iv: &[u8], ad: &[u8], text: &[u8], cut: usize) -> Result<bool, Refusal>
     requires { (cut ≤ length text.now) × (length text.now ≤ 64) }
 {
     let mut s = session::begin(key, iv)?;
@@ -72,26 +60,26 @@ fn text_cut(
 }
 
 // A page cut at each place of its data, and then of its text.
-fn cut_page(key: &[u8; 32], iv: &[u8; 16], ad: &[u8], text: &[u8]) -> bool
+fn cut_page(key: &[u8], iv: &[u8], ad: &[u8], text: &[u8]) -> bool
     requires { length text.now ≤ 64 }
 {
     (0..=ad.len()).all(|cut| data_cut(key, iv, ad, text, cut) == Ok(true))
         && (0..=text.len()).all(|cut| text_cut(key, iv, ad, text, cut) == Ok(true))
 }
 
-fn every_text(key: &[u8; 32], iv: &[u8; 16], ad: &[u8], text: &[u8]) -> bool
+fn every_text(key: &[u8], iv: &[u8], ad: &[u8], text: &[u8]) -> bool
     requires { length text.now ≤ 64 }
 {
     (0..=text.len()).all(|n| cut_page(key, iv, ad, &text[..n]))
 }
 
-fn every_page(key: &[u8; 32], iv: &[u8; 16], ad: &[u8], text: &[u8]) -> bool
+fn every_page(key: &[u8], iv: &[u8], ad: &[u8], text: &[u8]) -> bool
     requires { length text.now ≤ 64 }
 {
     (0..=ad.len()).all(|n| every_text(key, iv, &ad[..n], text))
 }
 
-pub fn cuts(key: &[u8; 32], iv: &[u8; 16]) -> bool {
+pub fn cuts(key: &[u8], iv: &[u8]) -> bool {
     let data = DATA;
     let text = TEXT;
     every_page(key, iv, &data, &text)

@@ -27,19 +27,19 @@ pub fn all_text(s: &mut Session, whole: &[u8], out: &mut [u8], size: usize) -> R
 }
 
 // Whether a session finishes with this tag and the IV that it was begun with.
-pub fn finishes(s: &mut Session, tag: &[u8; 16], iv: &[u8; 16]) -> Result<bool, Refusal> {
+pub fn finishes(s: &mut Session, tag: &[u8], iv: &[u8]) -> Result<bool, Refusal> {
     let c = session::finish(s)?;
-    Ok(c.tag == *tag && c.iv == *iv)
+    Ok(c.tag.as_slice() == tag && c.iv.as_slice() == iv)
 }
 
 // Whether the session gives this ciphertext, tag and IV.
 pub fn seals(
-    key: &[u8; 32],
-    iv: &[u8; 16],
+    key: &[u8],
+    iv: &[u8],
     ad: &[u8],
     whole: &[u8],
     cipher: &[u8],
-    tag: &[u8; 16],
+    tag: &[u8],
     size: usize,
 ) -> Result<bool, Refusal>
     requires { (1 ≤ size) × (length whole.now ≤ 64) }

@@ -6,22 +6,16 @@ use crate::{output, pieces};
 use scope::Refusal;
 use std::io;
 
-fn seals(
-    key: &[u8; 32],
-    iv: &[u8; 16],
-    ad: &[u8],
-    text: &[u8],
-    cipher: &[u8],
-    tag: &[u8; 16],
-) -> bool {
+fn seals(key: &[u8], iv: &[u8], ad: &[u8], text: &[u8], cipher: &[u8], tag: &[u8]) -> bool {
     let mut out = output::fresh();
-    page::seal(key, iv, ad, text, &mut out) == Ok(*tag) && output::holds(&out, cipher)
+    page::seal(key, iv, ad, text, &mut out).is_ok_and(|t| t.as_slice() == tag)
+        && output::holds(&out, cipher)
 }
 
 // Whether an opening gives this answer and leaves these bytes at the front of the output, and nothing else.
 fn opens(
-    key: &[u8; 32],
-    iv: &[u8; 16],
+    key: &[u8],
+    iv: &[u8],
     ad: &[u8],
     cipher: &[u8],
     tag: &[u8],
@@ -32,7 +26,7 @@ fn opens(
     page::open(key, iv, ad, cipher, tag, &mut out) == answer && output::holds(&out, text)
 }
 
-fn refused(key: &[u8; 32], iv: &[u8; 16], ad: &[u8], cipher: &[u8], tag: &[u8]) -> bool {
+fn refused(key: &[u8], iv: &[u8], ad: &[u8], cipher: &[u8], tag: &[u8]) -> bool {
     opens(key, iv, ad, cipher, tag, Err(Refusal::BadTag), b"")
 }
 
@@ -47,7 +41,7 @@ fn changed(x: &[u8], at: usize) -> [u8; 64]
 }
 
 // Whether a page is refused whichever byte of its tag is changed; and so of its ciphertext and its data.
-fn tag_refused(key: &[u8; 32], iv: &[u8; 16], ad: &[u8], cipher: &[u8], tag: &[u8]) -> bool
+fn tag_refused(key: &[u8], iv: &[u8], ad: &[u8], cipher: &[u8], tag: &[u8]) -> bool
     requires { length tag.now ≤ 64 }
 {
     (0..tag.len()).all(|at| {
@@ -56,7 +50,7 @@ fn tag_refused(key: &[u8; 32], iv: &[u8; 16], ad: &[u8], cipher: &[u8], tag: &[u
     })
 }
 
-fn cipher_refused(key: &[u8; 32], iv: &[u8; 16], ad: &[u8], cipher: &[u8], tag: &[u8; 16]) -> bool
+fn cipher_refused(key: &[u8], iv: &[u8], ad: &[u8], cipher: &[u8], tag: &[u8]) -> bool
     requires { length cipher.now ≤ 64 }
 {
     (0..cipher.len()).all(|at| {
@@ -65,7 +59,7 @@ fn cipher_refused(key: &[u8; 32], iv: &[u8; 16], ad: &[u8], cipher: &[u8], tag: 
     })
 }
 
-fn data_refused(key: &[u8; 32], iv: &[u8; 16], ad: &[u8], cipher: &[u8], tag: &[u8; 16]) -> bool
+fn data_refused(key: &[u8], iv: &[u8], ad: &[u8], cipher: &[u8], tag: &[u8]) -> bool
     requires { length ad.now ≤ 64 }
 {
     (0..ad.len()).all(|at| {
@@ -77,13 +71,13 @@ fn data_refused(key: &[u8; 32], iv: &[u8; 16], ad: &[u8], cipher: &[u8], tag: &[
 // The parts that a vector has, and whether a change in any is refused: the end of its line.
 fn changes(
     rt: &impl Print,
-    key: &[u8; 32],
-    iv: &[u8; 16],
+    key: &[u8],
+    iv: &[u8],
     ad: &[u8],
     cipher: &[u8],
-    tag: &[u8; 16],
+    tag: &[u8],
 ) -> io::Result<()>
-    requires { (length ad.now ≤ 64) × (length cipher.now ≤ 64) }
+    requires { (length ad.now ≤ 64) × (length cipher.now ≤ 64) × (length tag.now ≤ 64) }
 {
     let ciphertext = if cipher.is_empty() {
         ""
@@ -107,12 +101,12 @@ fn changes(
 
 // Whether a vector comes out in pieces of 1, of 7 and of 16 bytes.
 fn seals_in_pieces(
-    key: &[u8; 32],
-    iv: &[u8; 16],
+    key: &[u8],
+    iv: &[u8],
     ad: &[u8],
     text: &[u8],
     cipher: &[u8],
-    tag: &[u8; 16],
+    tag: &[u8],
 ) -> Result<bool, Refusal>
     requires { length text.now ≤ 64 }
 {
@@ -126,14 +120,14 @@ fn seals_in_pieces(
 pub fn vector(
     rt: &impl Print,
     v: u64,
-    key: &[u8; 32],
-    iv: &[u8; 16],
+    key: &[u8],
+    iv: &[u8],
     ad: &[u8],
     text: &[u8],
     cipher: &[u8],
-    tag: &[u8; 16],
+    tag: &[u8],
 ) -> io::Result<()>
-    requires { (length ad.now ≤ 64) × (length text.now ≤ 64) × (length cipher.now ≤ 64) }
+    requires { (length ad.now ≤ 64) × (length text.now ≤ 64) × (length cipher.now ≤ 64) × (length tag.now ≤ 64) }
 {
     let whole = seals(key, iv, ad, text, cipher, tag);
     let cut = seals_in_pieces(key, iv, ad, text, cipher, tag) == Ok(true);

@@ -3,6 +3,7 @@ ghost use Rattle.std.specs.Prelude.{◌≤◌, length};
 
 use crate::stays;
 use scope::Refusal;
+use std::convert::AsSlice;
 use std::io;
 
 // Stay i joins, with so many bytes of a scheduler, of its key and of its IV.
@@ -26,9 +27,9 @@ pub fn join(rt: &impl Print, s: &mut [u8; 8208], rests: &mut [u8; 256], i: u8) -
 }
 
 // What stay 32 is answered.
-pub fn with(
+pub fn with<T: AsSlice<u8> + Drop>(
     rt: &impl Print,
-    label: &str,
+    label: T,
     s: &mut [u8],
     n: usize,
     key: usize,
@@ -38,7 +39,9 @@ pub fn with(
     requires { (n ≤ length s.old) × (key ≤ 33) × (iv ≤ 17) }
 {
     let answer = call(s, n, 32, key, iv, text);
-    println!(rt; "join with {label}: {}", scope::number(answer))
+    print!(rt; "join with ")?;
+    rt.write_all(label.as_slice())?;
+    println!(rt; ": {}", scope::number(answer))
 }
 
 pub fn without_text(rt: &impl Print, s: &mut [u8; 8208]) -> io::Result<()> {

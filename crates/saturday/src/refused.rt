@@ -2,6 +2,7 @@
 ghost use Rattle.std.specs.Prelude.{◌<◌, ◌≤◌, length};
 
 use crate::{calls, stays};
+use std::convert::AsSlice;
 use std::io;
 
 // A copy of a scheduler that has done so many turns.
@@ -12,9 +13,9 @@ pub fn at(s: [u8; 8208], turns: u64) -> [u8; 8208] {
 }
 
 // What a turn is answered with so many bytes of a scheduler, and a piece and an output of these lengths.
-pub fn with(
+pub fn with<T: AsSlice<u8> + Drop>(
     rt: &impl Print,
-    label: &str,
+    label: T,
     s: &mut [u8],
     n: usize,
     piece: usize,
@@ -25,7 +26,9 @@ pub fn with(
     let text = stays::text(0);
     let mut room = [0u8; 4097];
     let answer = scheduler::turn(&mut s[0..n], &text[0..piece], &mut room[0..out]).map(|_| ());
-    println!(rt; "turn with {label}: {}", scope::number(answer))
+    print!(rt; "turn with ")?;
+    rt.write_all(label.as_slice())?;
+    println!(rt; ": {}", scope::number(answer))
 }
 
 // A turn past 2^62.

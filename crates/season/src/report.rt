@@ -1,9 +1,8 @@
 // What the program writes of an answer and of bytes.
-use scope::Refusal;
 use std::{fmt, io};
 
 // What a seal answers with.
-pub fn answer(rt: &impl Print, answer: Result<(), Refusal>) -> io::Result<()> {
+pub fn answer<E: fmt::Display + Drop>(rt: &impl Print, answer: Result<(), E>) -> io::Result<()> {
     match answer {
         Ok(()) => print!(rt; "accepted"),
         Err(e) => print!(rt; "{e}"),

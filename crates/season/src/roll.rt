@@ -4,6 +4,7 @@ ghost use Rattle.std.specs.Prelude.{◌≤◌};
 use crate::season;
 use crate::season::Page;
 use scope::Refusal;
+use std::convert::AsSlice;
 use std::io;
 
 // What stands at each place of an output before a call.
@@ -62,8 +63,9 @@ pub fn look(rt: &impl Print, p: Page, file: &[u8]) -> io::Result<()> {
     look_with(rt, &key, &stay, p, file, 480)
 }
 
-pub fn roll_call(rt: &impl Print, label: &str, file: &[u8]) -> io::Result<()> {
-    print!(rt; "{label}:")?;
+pub fn roll_call<T: AsSlice<u8> + Drop>(rt: &impl Print, label: T, file: &[u8]) -> io::Result<()> {
+    rt.write_all(label.as_slice())?;
+    print!(rt; ":")?;
     for place in 0..7 {
         print!(rt; " ")?;
         look(rt, season::at(place), file)?;

@@ -130,7 +130,7 @@ pub fn step(s: &mut State, back: bool) -> Result<Block, Refusal> {
 }
 
 // The block that a step answers with. For a refusal one that none of the blocks compared is.
-pub fn block(d: Result<Block, Refusal>) -> Block {
+pub fn block<E: Drop>(d: Result<Block, E>) -> Block {
     d.unwrap_or(Block {
         w0: 1,
         w1: 0,
