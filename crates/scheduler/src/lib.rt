@@ -183,12 +183,12 @@ pub fn join(scheduler: &mut [u8], key: &[u8], iv: &[u8], length: u64) -> Result<
     if present(scheduler, n, words::load(iv, 0)) {
         return Err(Refusal::NumberTaken);
     }
-    seated(scheduler, key, iv, length, n)
+    add_stay(scheduler, key, iv, length, n)
 }
 
 // A joining that is accepted, behind n stays: a call, so that what it keeps in registers costs nothing where a joining is refused.
 #[inline(never)]
-fn seated(scheduler: &mut [u8], key: &[u8], iv: &[u8], text: u64, n: usize) -> Result<(), Refusal>
+fn add_stay(scheduler: &mut [u8], key: &[u8], iv: &[u8], text: u64, n: usize) -> Result<(), Refusal>
     requires { (length scheduler.old ≡ scheduler_length) × (length key.now ≡ 32) × (length iv.now ≡ 16) × (text ≤ most_text) × (n ≡ how_many scheduler.old) × (n < most_stays) × (0 ≡ join_answer scheduler.old key.now iv.now text) }
     ensures answer { answer_number result ≡ join_answer scheduler.old key.now iv.now text }
     ensures scheduler { JoinLeaves scheduler.old key.now iv.now text scheduler.new }

@@ -1,4 +1,4 @@
--- `scheduler::join` meets its contract, by its tests in their order; the new stay is written behind the others.
+-- `scheduler::join` meets its contract, by its tests in their order, and for an accepted joining by `add_stay`.
 use mathlib.Core.Path.{◌≡◌, sym, ap₂, ◌∙◌}
 use mathlib.Core.Bool.{Bool}
 use mathlib.Core.List.{List}
@@ -66,8 +66,8 @@ returns-then-present c =
     (join_present s a.key.now a.iv.now a.length c.if-scheduler-ne-SCHEDULER_BYTES.false c.if-key-ne32.false c.if-iv-ne16.false c.if-length-eq0.false c.if-length-gt-MOST_TEXT.false
     (omega (arith, c.stays-n.ensures.0, c.if-n-ge-MOST_STAYS.false)) (sym f ∙ c.if-present.true))
 
-pub seated-requires : goal.seated-requires
-seated-requires c =
+pub add_stay-requires : goal.add_stay-requires
+add_stay-requires c =
     let a = c.args in
     let s = a.scheduler.now in
     let f = looked s a.iv.now (bytes_of c.load.result) c.stays-n.result c.present.result c.if-iv-ne16.false c.stays-n.ensures.0 c.load.ensures c.present.ensures in

@@ -1,4 +1,4 @@
--- `scheduler::seated` meets its contract: the new stay is written behind the others.
+-- `scheduler::add_stay` meets its contract: the new stay is written behind the others.
 use mathlib.Core.Path.{◌≡◌, sym, ap, ap₂, subst, ◌∙◌}
 use mathlib.Core.Bool.{true}
 use mathlib.Core.List.{List, [], ◌∷◌, ◌++◌}
@@ -20,7 +20,7 @@ use Rattle.scheduler.specs.Calls.{newcomer, join_call, join_number}
 use Rattle.scheduler.specs.Bytes.{stay_bytes, scheduler_in, Leaves, join_answer}
 use Rattle.scheduler.proofs.Looking.{join_whole}
 use Rattle.scheduler.proofs.Serving.{joining}
-use Rattle.scheduler.proofs.seated.Goals as goal
+use Rattle.scheduler.proofs.add_stay.Goals as goal
 
 -- neither length is refused any more
 begins : (key iv : List ℕ) → length key ≡ 32 → length iv ≡ 16 → (begin_call key iv).number ≡ 0
